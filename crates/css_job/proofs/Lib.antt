@@ -1,0 +1,14 @@
+mod SameWord
+mod Marks
+mod Plainly
+mod Joined
+mod Pieces
+mod Carry
+mod Names
+mod Ways
+mod Reading
+mod Sound
+mod Whole
+mod Reports
+mod Linted
+mod PinnedObject

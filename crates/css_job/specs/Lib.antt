@@ -1,0 +1,11 @@
+pub mod Words
+pub mod Sheet
+pub mod Report
+pub mod Faults
+pub mod Plan
+pub mod Answer
+pub mod Outside
+pub mod Causes
+pub mod Pinned
+pub mod Stages
+pub mod Examples

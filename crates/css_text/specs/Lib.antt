@@ -1,0 +1,11 @@
+pub mod Characters
+pub mod Forms
+pub mod Pieces
+pub mod Ahead
+pub mod Found
+pub mod Examples
+pub mod Place
+pub mod Lines
+pub mod TextAnswer
+pub mod Blocks
+pub mod PieceKinds

@@ -1,0 +1,78 @@
+// The standard streams. They tell the count of their faults, and no bytes.
+ghost use Rattle.std.specs.Prelude.{None};
+
+use crate::edge::{Failed, Sink, Source, WriteStop};
+use crate::stream::{read_from, write_to};
+use std::io::{Stderr, Stdin, Stdout};
+
+/// The standard input.
+#[derive(Drop)]
+pub struct StdIn {
+    stream: Stdin,
+    faults: u64,
+}
+
+impl StdIn {
+    /// The standard input, with no fault so far.
+    pub fn new(stream: Stdin) -> StdIn {
+        StdIn { stream, faults: 0 }
+    }
+}
+
+impl Source for StdIn {
+    ghost left = { λ _. None };
+
+    ghost faults = { λ s. s.faults };
+
+    fn read(&mut self, buf: &mut [u8]) -> Result<usize, Failed> {
+        read_from(&mut self.stream, &mut self.faults, buf)
+    }
+}
+
+/// The standard output, without a buffer.
+#[derive(Drop)]
+pub struct StdOut {
+    stream: Stdout,
+    faults: u64,
+}
+
+impl StdOut {
+    /// The standard output, with no fault so far.
+    pub fn new(stream: Stdout) -> StdOut {
+        StdOut { stream, faults: 0 }
+    }
+}
+
+impl Sink for StdOut {
+    ghost written = { λ _. None };
+
+    ghost faults = { λ s. s.faults };
+
+    fn write(&mut self, piece: &[u8]) -> Result<usize, WriteStop> {
+        write_to(&mut self.stream, &mut self.faults, piece)
+    }
+}
+
+/// The standard error, without a buffer.
+#[derive(Drop)]
+pub struct StdErr {
+    stream: Stderr,
+    faults: u64,
+}
+
+impl StdErr {
+    /// The standard error, with no fault so far.
+    pub fn new(stream: Stderr) -> StdErr {
+        StdErr { stream, faults: 0 }
+    }
+}
+
+impl Sink for StdErr {
+    ghost written = { λ _. None };
+
+    ghost faults = { λ s. s.faults };
+
+    fn write(&mut self, piece: &[u8]) -> Result<usize, WriteStop> {
+        write_to(&mut self.stream, &mut self.faults, piece)
+    }
+}

@@ -1,0 +1,5 @@
+use Rattle.source_map.proofs.Lawful.{decodes_back}
+use Rattle.source_map.proofs.laws.decodes_back.Goals as goal
+
+pub returns : goal.returns
+returns c = decodes_back
