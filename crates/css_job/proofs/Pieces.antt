@@ -5,7 +5,7 @@ use Rattle.std.proofs.KnownBytes.{Appends-trans, Appends-nil}
 use Rattle.css_job.specs.Plan.{Piece}
 use Rattle.css_job.specs.Answer.{bytes_for, same_target}
 use Rattle.std.proofs.lemmas.List.{take_more, take_all, map-append}
-use Rattle.std.specs.String.{string_bytes}
+use Rattle.std.specs.Prelude.{encode_utf8_all}
 use Rattle.std.specs.declared.alloc.AllocError.{AllocError}
 use Rattle.io_edge.specs.Causes.{Rose}
 use Rattle.io_edge.specs.Whole.{WritesAll}
@@ -138,11 +138,11 @@ one_stranded ws i w a b c e h is s k = (w.to, subst (λ ps. Broken w.to ps a c) 
 pub all_done : (ws : List Write) (i : ℕ) (a b : Sinks) → length ws ≤ i → SoFar (map piece_of (take i ws)) a b → WritesEach (map piece_of ws) a b (Ok None)
 all_done ws i a b h s = let all = subst (λ x. SoFar (map piece_of x) a b) (take_all i ws h) s in (all.sent, all.same)
 
-pub wrote_out : (w : Write) (bytes : List ℕ) (a c : Sinks) (r : Result (Unit {0}) WriteStop) → w.to ≡ StdOut → bytes ≡ string_bytes w.text → WritesAll bytes a.out c.out a.outs c.outs r → c.err ≡ a.err → c.errs ≡ a.errs → WritesOne (piece_of w) a c r
-wrote_out w bytes a c r is same h e f = subst (λ p. WritesOne p a c r) (ap (piece StdOut) same ∙ ap (λ t. piece t (string_bytes w.text)) (sym is)) (one_out bytes a c r h e f)
+pub wrote_out : (w : Write) (bytes : List ℕ) (a c : Sinks) (r : Result (Unit {0}) WriteStop) → w.to ≡ StdOut → bytes ≡ encode_utf8_all w.text → WritesAll bytes a.out c.out a.outs c.outs r → c.err ≡ a.err → c.errs ≡ a.errs → WritesOne (piece_of w) a c r
+wrote_out w bytes a c r is same h e f = subst (λ p. WritesOne p a c r) (ap (piece StdOut) same ∙ ap (λ t. piece t (encode_utf8_all w.text)) (sym is)) (one_out bytes a c r h e f)
 
-pub wrote_err : (w : Write) (bytes : List ℕ) (a c : Sinks) (r : Result (Unit {0}) WriteStop) → w.to ≡ StdErr → bytes ≡ string_bytes w.text → WritesAll bytes a.err c.err a.errs c.errs r → c.out ≡ a.out → c.outs ≡ a.outs → WritesOne (piece_of w) a c r
-wrote_err w bytes a c r is same h e f = subst (λ p. WritesOne p a c r) (ap (piece StdErr) same ∙ ap (λ t. piece t (string_bytes w.text)) (sym is)) (one_err bytes a c r h e f)
+pub wrote_err : (w : Write) (bytes : List ℕ) (a c : Sinks) (r : Result (Unit {0}) WriteStop) → w.to ≡ StdErr → bytes ≡ encode_utf8_all w.text → WritesAll bytes a.err c.err a.errs c.errs r → c.out ≡ a.out → c.outs ≡ a.outs → WritesOne (piece_of w) a c r
+wrote_err w bytes a c r is same h e f = subst (λ p. WritesOne p a c r) (ap (piece StdErr) same ∙ ap (λ t. piece t (encode_utf8_all w.text)) (sym is)) (one_err bytes a c r h e f)
 
 pub failed_by : (ws : List Write) (i : ℕ) (w : Write) (a b c : Sinks) (r : Result (Unit {0}) WriteStop) (s : WriteStop) → r ≡ Err s → s ≡ WriteFault → i < length ws → w ≡ get_or ws i w → SoFar (map piece_of (take i ws)) a b → WritesOne (piece_of w) b c r → WritesEach (map piece_of ws) a c (Ok (Some w.to))
 failed_by ws i w a b c r s p q h is so k = one_failed ws i w a b c h is so (subst (λ v. WritesOne (piece_of w) b c v) (p ∙ ap (λ v. Err v) q) k)

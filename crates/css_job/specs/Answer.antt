@@ -1,7 +1,8 @@
--- What a run answers and writes, as a function of its words, its input and the object whose call failed first.
+-- What a run answers and writes, as a function of its words, its input, what that is read as, and the object whose call failed first.
 use Rattle.std.specs.Prelude.{ℕ, List, [], ◌∷◌, ◌++◌, Bool, true, false, Option, Some, None, if◌then◌else◌}
 use Rattle.css_job.specs.Faults.{line_of, name_of}
 use Rattle.css_job.specs.Plan.{Piece, Plan, plan_of}
+use Rattle.css_job.specs.Reading.{Reading}
 use Rattle.css_job.specs.declared.fault.Fault.{Fault}
 use Rattle.css_job.specs.declared.fault.Fault.TheVariants.{WriteFault}
 use Rattle.css_job.specs.declared.target.Target.{Target}
@@ -62,6 +63,6 @@ abbrev pub failed_target : Option Object → Option Target
 failed_target (Some (write_to t)) = Some t
 failed_target _ = None
 
--- how a run over these words and this input ends, where the call of this object, or of none, failed first
-unfoldable pub answer : List (List ℕ) → List ℕ → Option Object → Answer
-answer words bytes failed = finish (plan_of words bytes (is_input failed)) (failed_target failed)
+-- how a run over these words and this input ends, where the input's text is read as this, and the call of this object, or of none, failed first
+unfoldable pub answer : List (List ℕ) → List ℕ → Reading → Option Object → Answer
+answer words bytes reading failed = finish (plan_of words bytes reading (is_input failed)) (failed_target failed)

@@ -1,11 +1,15 @@
 pub mod Words
-pub mod Sheet
-pub mod Report
 pub mod Faults
+pub mod Reading
+pub mod Warnings
+pub mod Shown
+pub mod Report
 pub mod Plan
 pub mod Answer
 pub mod Outside
 pub mod Causes
 pub mod Pinned
+pub mod Walk
 pub mod Stages
+pub mod Laws
 pub mod Examples

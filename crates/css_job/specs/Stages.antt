@@ -1,18 +1,20 @@
 -- The two stages of a run: all that is read and computed, and then all that is written.
-use Rattle.std.specs.Prelude.{ℕ, ◌≡◌, ◌==◌, ◌<◌, ◌≤◌, ◌⊎◌, List, [], ◌∷◌, ◌++◌, length, map, Bool, true, false, Option, Some, None, Result, Ok, Err, string_bytes, if◌then◌else◌}
+use Rattle.std.specs.Prelude.{ℕ, ◌≡◌, ◌<◌, ◌≤◌, ◌⊎◌, List, [], ◌∷◌, ◌++◌, length, map, Bool, true, false, Option, Some, None, Result, Ok, Err, encode_utf8_all}
 use Rattle.std.specs.Io.KnownBytes.{Appends, IsAtEnd}
 use Rattle.std.specs.declared.alloc.AllocError.{AllocError}
 use Rattle.io_edge.specs.Causes.{Rose}
 use Rattle.io_edge.specs.declared.edge.Sink as sink
 use Rattle.io_edge.specs.declared.edge.WriteStop.{WriteStop}
 use Rattle.io_edge.specs.declared.edge.WriteStop.TheVariants.{WriteFault, Memory}
+use Rattle.std.specs.Str.{chars}
 use Rattle.css_job.specs.Words.{are_taken, takes_input}
+use Rattle.css_job.specs.Reading.{Reading, IsReadingOf}
 use Rattle.css_job.specs.Faults.{line_of, name_of}
-use Rattle.css_job.specs.Plan.{Piece, Plan, plan_of, limit, is_built, linted, stopped}
+use Rattle.css_job.specs.Plan.{Piece, Plan, plan_of, input_plan, text_plan}
+use Rattle.css_job.specs.declared.words.Command.{Command}
 use Rattle.css_job.specs.Answer.{finish_with, begun, bytes_for}
-use Rattle.css_job.specs.Outside.{Fed, Took, TookFront}
+use Rattle.css_job.specs.Outside.{Fed, IsRead, Took, TookFront}
 use Rattle.css_job.specs.declared.fault.Fault.{Fault}
-use Rattle.css_job.specs.declared.fault.Fault.TheVariants.{NotBuilt}
 use Rattle.css_job.specs.declared.fault.Fault.TheVariants as F
 use Rattle.css_job.specs.declared.run.Ended.{Ended}
 use Rattle.css_job.specs.declared.plan.Write.{Write}
@@ -21,33 +23,45 @@ use Rattle.css_job.specs.declared.target.Target.{Target}
 use Rattle.css_job.specs.declared.target.Target.TheVariants.{StdOut, StdErr}
 
 abbrev pub piece_of : Write → Piece
-piece_of w = record { to = w.to; bytes = string_bytes w.text }
+piece_of w = record { to = w.to; bytes = encode_utf8_all w.text }
 
 abbrev pub plan_seen : P.Plan → Plan
 plan_seen p = record { fault = p.fault; status = p.status; writes = map piece_of p.writes.items }
 
--- a plan that writes one report
-abbrev pub reported : List ℕ → ℕ → Plan
-reported report count = record { fault = None; status = if count == 0 then 0 else 2; writes = record { to = StdErr; bytes = report } ∷ [] }
+-- a plan that writes one text
+abbrev pub writing : Target → List ℕ → ℕ → Plan
+writing to text status = record { fault = None; status = status; writes = record { to = to; bytes = encode_utf8_all text } ∷ [] }
 
--- the plan for an input that was read whole
-abbrev pub sheet_plan : List ℕ → Plan
-sheet_plan bytes = if is_built bytes then linted bytes else stopped NotBuilt
+-- the plan of a command for a text, for what that is read as
+pub record IsTextPlan (command : Command) (s : List ℕ) (plan : Plan) : Type 0 where
+  pub reading : Reading
+  pub is_reading : IsReadingOf s reading
+  pub is : plan ≡ text_plan command s reading
+
+-- the plan of a command for an input that was read whole, for what its text is read as
+pub record IsInputPlan (command : Command) (bytes : List ℕ) (plan : Plan) : Type 0 where
+  pub reading : Reading
+  pub is_reading : IsReadingOf (chars bytes) reading
+  pub is : plan ≡ input_plan command bytes reading
 
 -- the first stage: the input is read as far as the words want it, and the plan is that of the input
 pub record Prepared (words : List (List ℕ)) (old new : Option (List ℕ)) (before now : ℕ) (plan : Plan) : Type 0 where
   pub bytes : List ℕ
+  pub reading : Reading
+  pub is_reading : IsReadingOf (chars bytes) reading
   pub unread : Bool
   pub rose : unread ≡ true → Rose before now
   pub same : unread ≡ false → now ≡ before
   pub wanted : unread ≡ true → are_taken words ≡ true
   pub fed : Fed words bytes old new
-  pub drained : takes_input words ≡ true → unread ≡ false → length bytes ≤ limit → IsAtEnd new
-  pub is : plan ≡ plan_of words bytes unread
+  pub is_read : takes_input words ≡ true → unread ≡ false → IsRead bytes fed.given new
+  pub is : plan ≡ plan_of words bytes reading unread
 
 -- the first stage, where it wanted memory
 pub record Unprepared (words : List (List ℕ)) (old new : Option (List ℕ)) (before now : ℕ) : Type 0 where
   pub bytes : List ℕ
+  pub reading : Reading
+  pub is_reading : IsReadingOf (chars bytes) reading
   pub unread : Bool
   pub rose : unread ≡ true → Rose before now
   pub same : unread ≡ false → now ≡ before

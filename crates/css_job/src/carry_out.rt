@@ -18,8 +18,8 @@ fn write_one<O: Sink, E: Sink>(write: &Write, out: &mut O, err: &mut E) -> Resul
         (sinks O.Sink E.Sink out.new err.new) result }
 {
     match write.to {
-        Target::StdOut => write_all(out, write.text.as_bytes()),
-        Target::StdErr => write_all(err, write.text.as_bytes()),
+        Target::StdOut => write_all(out, write.text.as_str().as_bytes()),
+        Target::StdErr => write_all(err, write.text.as_str().as_bytes()),
     }
 }
 

@@ -3,7 +3,8 @@ ghost use Rattle.std.specs.Prelude.{◌≡◌, Option};
 ghost use Rattle.css_job.specs.Answer.{Object};
 ghost use Rattle.css_job.specs.Outside.{Moment, Licensed};
 ghost use Rattle.css_job.specs.Pinned.{BelowLast};
-ghost use Rattle.css_job.specs.Examples.{EmptyBlock, Plain, NotPlain, Broken, NoWord};
+ghost use Rattle.css_job.specs.Laws.{SomeReading, OneReading, BraceFollows, InOrder};
+ghost use Rattle.css_job.specs.Examples.{EmptyBlock, Printed, Nested, Unclosed, Wrong, Broken, NoWord};
 
 /// Where no count stands at its last value, the counts tell which object failed first.
 pub fn failed_is_pinned()
@@ -11,11 +12,29 @@ pub fn failed_is_pinned()
         Licensed g old new → f ≡ g }
 {}
 
+/// Each text is read as a tree or as a fault, and as nothing else.
+pub fn one_reading()
+    ensures some { SomeReading }
+    ensures one { OneReading }
+{}
+
+/// What stands before the `{` of an empty block is all of its body before it.
+pub fn brace_follows()
+    ensures { BraceFollows }
+{}
+
+/// The warnings on empty blocks are in the order of their places.
+pub fn in_order()
+    ensures { InOrder }
+{}
+
 /// What the definition of the answer gives on small inputs.
 pub fn examples()
     ensures empty_block { EmptyBlock }
-    ensures plain { Plain }
-    ensures not_plain { NotPlain }
+    ensures printed { Printed }
+    ensures nested { Nested }
+    ensures unclosed { Unclosed }
+    ensures wrong { Wrong }
     ensures broken { Broken }
     ensures no_word { NoWord }
 {}

@@ -2,15 +2,19 @@
 #![tactic(auto)]
 
 mod carry_out;
+mod command;
+mod empty_blocks;
 pub mod fault;
+mod input;
 pub mod laws;
-mod lint;
 mod plan;
 mod prepare;
+mod reads;
 mod report;
 pub mod run;
-mod sheet;
 mod target;
 #[cfg(test)]
 mod tests;
-mod words;
+mod walk;
+pub mod warning;
+pub mod words;

@@ -1,18 +1,19 @@
 // What is to be done once all is read.
-ghost use Rattle.std.specs.Prelude.{◌≡◌, ◌==◌, if◌then◌else◌, IfOk, string_bytes};
+ghost use Rattle.std.specs.Prelude.{◌≡◌, IfOk};
 ghost use Rattle.css_job.specs.Faults.{status_of};
 ghost use Rattle.css_job.specs.Plan.{stopped};
-ghost use Rattle.css_job.specs.Stages.{plan_seen, reported};
+ghost use Rattle.css_job.specs.Stages.{plan_seen, writing};
 
 use crate::fault::Fault;
 use crate::target::Target;
+use css_text::txt::Txt;
 use std::alloc::{AllocError, Global};
 
 /// A text that goes to a target.
 #[derive(Drop)]
 pub struct Write {
     pub to: Target,
-    pub text: String,
+    pub text: Txt,
 }
 
 /// What is to be done once all is read: the writes in order, and the status where none fails.
@@ -37,29 +38,19 @@ pub fn stop(alloc: Global, fault: Fault, status: u8) -> Plan
     }
 }
 
-/// The status of `lint`, after so many warnings of severity error: 2, or 0 without one.
-fn lint_status(count: usize) -> u8
-    ensures { result ≡ (if count == 0 then 0 else 2) }
-{
-    if count == 0 { 0 } else { 2 }
-}
-
-/// The plan that writes a report on so many warnings.
+/// The plan that writes one text, and ends with that status.
 ///
 /// # Errors
 ///
 /// Only for want of memory.
-pub fn report_plan(alloc: Global, report: String, count: usize) -> Result<Plan, AllocError>
-    ensures { IfOk result (λ plan. plan_seen plan ≡ reported (string_bytes report) count) }
+pub fn one_write(alloc: Global, to: Target, text: Txt, status: u8) -> Result<Plan, AllocError>
+    ensures { IfOk result (λ plan. plan_seen plan ≡ writing to text status) }
 {
     let mut writes = Vec::new(alloc);
-    writes.push(Write {
-        to: Target::StdErr,
-        text: report,
-    })?;
+    writes.push(Write { to, text })?;
     Ok(Plan {
         fault: None,
-        status: lint_status(count),
+        status,
         writes,
     })
 }

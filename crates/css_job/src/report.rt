@@ -1,93 +1,112 @@
-// The report of the rules without a declaration.
-ghost use Rattle.std.specs.Prelude.{◌≡◌, ◌==◌, ◌++◌, if◌then◌else◌, ◌<◌, ◌≤◌, ◌^◌, IfOk, OnOk, All, map, codes, decimal, take, length, string_bytes, encode_utf8_all};
-ghost use Rattle.std.specs.Str.{IsCharBoundary};
+// The report on warnings.
+ghost use Rattle.std.specs.Prelude.{◌≡◌, ◌≤◌, ◌-◌, ◌++◌, IfOk, OnOk, map, count_by, string_bytes, encode_utf8_all};
+ghost use Rattle.std.specs.Str.{chars};
 ghost use Rattle.std.specs.List.{flat_map};
-ghost use Rattle.css_text.specs.Place.{place_of};
-ghost use Rattle.css_job.specs.Faults.{input_name};
-ghost use Rattle.css_job.specs.Report.{line, warning_line, total_line, report};
+ghost use Rattle.css_job.specs.Report.{is_error, place_text, warning_line, counted, total_line, report};
+ghost use Rattle.css_job.specs.Plan.{lint_status};
+ghost use Rattle.css_job.specs.Shown.{warning_seen};
 
-use css_text::text::{Place, Text};
+use crate::warning::Warning;
+use css_text::text::Place;
 use std::alloc::{AllocError, Global};
-use std::string::ToString;
 
-fn push_number(alloc: Global, to: &mut String, n: u64) -> Result<(), AllocError>
-    ensures { OnOk result (string_bytes to.new ≡ string_bytes to.old ++ decimal n) }
+/// How many of the warnings are errors.
+fn error_count(warnings: &[Warning]) -> usize
+    ensures { result ≡ count_by is_error (map warning_seen warnings.now) }
 {
-    let digits = n.to_string(alloc)?;
-    to.push_str(digits.as_str())?;
+    let mut count = 0;
+    for warning in warnings {
+        if warning.severity.is_error() {
+            count += 1;
+        }
+    }
+    count
+}
+
+/// The status of `lint` after these warnings: 2, or 0 where none of them is an error.
+pub fn lint_status(warnings: &[Warning]) -> u8
+    ensures { result ≡ lint_status (map warning_seen warnings.now) }
+{
+    if error_count(warnings) == 0 { 0 } else { 2 }
+}
+
+fn push_text(to: &mut String, text: &str) -> Result<(), AllocError>
+    ensures { OnOk result (string_bytes to.new ≡ string_bytes to.old ++ encode_utf8_all (chars text.now)) }
+{
+    to.push_str(text)?;
     Ok(())
 }
 
-fn push_warning(alloc: Global, to: &mut String, place: Place) -> Result<(), AllocError>
-    ensures { OnOk result (string_bytes to.new ≡ string_bytes to.old ++ warning_line place) }
+fn push_place(to: &mut String, place: Place) -> Result<(), AllocError>
+    ensures { OnOk result (string_bytes to.new ≡ string_bytes to.old ++ place_text place) }
 {
+    let Place { line, column } = place;
+    write!(to, "  {line}:{column}")?;
+    Ok(())
+}
+
+fn push_warning(to: &mut String, warning: &Warning) -> Result<(), AllocError>
+    ensures { OnOk result (string_bytes to.new ≡ string_bytes to.old ++ warning_line (warning_seen warning.now)) }
+{
+    push_place(to, warning.place)?;
     to.push_str("  ")?;
-    push_number(alloc, to, place.line as u64)?;
-    to.push_str(":")?;
-    push_number(alloc, to, place.column as u64)?;
-    to.push_str("  error  Unexpected empty block  block-no-empty\n")?;
+    to.push_str(warning.severity.name())?;
+    to.push_str("  ")?;
+    push_text(to, warning.text)?;
+    to.push_str("  ")?;
+    push_text(to, warning.rule)?;
+    to.push_str("\n")?;
     Ok(())
 }
 
-fn problems(n: usize) -> &'static str
-    ensures { result.now ≡ (if n == 1 then codes " problem (" else codes " problems (") }
+fn push_warnings(to: &mut String, warnings: &[Warning]) -> Result<(), AllocError>
+    ensures { OnOk result (string_bytes to.new ≡ string_bytes to.old ++ flat_map warning_line (map warning_seen warnings.now)) }
 {
-    if n == 1 { " problem (" } else { " problems (" }
-}
-
-fn errors(n: usize) -> &'static str
-    ensures { result.now ≡ line (if n == 1 then codes " error, 0 warnings)" else codes " errors, 0 warnings)") }
-{
-    if n == 1 {
-        " error, 0 warnings)\n"
-    } else {
-        " errors, 0 warnings)\n"
-    }
-}
-
-fn push_total(alloc: Global, to: &mut String, n: usize) -> Result<(), AllocError>
-    ensures { OnOk result (string_bytes to.new ≡ string_bytes to.old ++ total_line n) }
-{
-    push_number(alloc, to, n as u64)?;
-    to.push_str(problems(n))?;
-    push_number(alloc, to, n as u64)?;
-    to.push_str(errors(n))?;
-    Ok(())
-}
-
-fn push_warnings(
-    alloc: Global,
-    to: &mut String,
-    text: &Text,
-    marks: &[usize],
-) -> Result<(), AllocError>
-    requires { All (λ at. (at < 2 ^ 32) × IsCharBoundary (encode_utf8_all text.now) at) marks.now }
-    ensures { OnOk result (string_bytes to.new ≡ string_bytes to.old ++ flat_map warning_line (map (place_of text.now) marks.now)) }
-{
-    for at in marks {
-        let place = text.place(*at as u32);
-        push_warning(alloc, to, place)?;
+    for warning in warnings {
+        push_warning(to, warning)?;
     }
     Ok(())
 }
 
-/// The report on the empty blocks at these bytes of a text, in the layout of stylelint's `string`
+/// So many of these, in the singular at 1.
+fn push_counted(to: &mut String, n: usize, things: &str) -> Result<(), AllocError>
+    ensures { OnOk result (string_bytes to.new ≡ string_bytes to.old ++ counted n things.now) }
+{
+    let ending = if n == 1 { "" } else { "s" };
+    write!(to, "{n} {things}{ending}")?;
+    Ok(())
+}
+
+fn push_total(to: &mut String, problems: usize, errors: usize) -> Result<(), AllocError>
+    requires { errors ≤ problems }
+    ensures { OnOk result (string_bytes to.new ≡ string_bytes to.old ++ total_line problems errors (problems - errors)) }
+{
+    push_counted(to, problems, "problem")?;
+    to.push_str(" (")?;
+    push_counted(to, errors, "error")?;
+    to.push_str(", ")?;
+    push_counted(to, problems - errors, "warning")?;
+    to.push_str(")\n")?;
+    Ok(())
+}
+
+/// The report on the warnings of the file of that name, in the layout of stylelint's `string`
 /// formatter as this program defines it. It is empty without any.
 ///
 /// # Errors
 ///
 /// Only for want of memory.
-pub fn report_of(alloc: Global, text: &Text, marks: &[usize]) -> Result<String, AllocError>
-    requires { All (λ at. (at < 2 ^ 32) × IsCharBoundary (encode_utf8_all text.now) at) marks.now }
-    ensures { IfOk result (λ s. string_bytes s ≡ report input_name (map (place_of text.now) marks.now)) }
+pub fn report(alloc: Global, name: &str, warnings: &[Warning]) -> Result<String, AllocError>
+    ensures { IfOk result (λ s. string_bytes s ≡ report (chars name.now) (map warning_seen warnings.now)) }
 {
-    let mut s = String::new(alloc);
-    if marks.is_empty() {
-        return Ok(s);
+    let mut text = String::new(alloc);
+    if warnings.is_empty() {
+        return Ok(text);
     }
-    s.push_str("<stdin>\n")?;
-    push_warnings(alloc, &mut s, text, marks)?;
-    s.push_str("\n")?;
-    push_total(alloc, &mut s, marks.len())?;
-    Ok(s)
+    push_text(&mut text, name)?;
+    text.push_str("\n")?;
+    push_warnings(&mut text, warnings)?;
+    text.push_str("\n")?;
+    push_total(&mut text, warnings.len(), error_count(warnings))?;
+    Ok(text)
 }

@@ -2,7 +2,7 @@
 ghost use Rattle.std.specs.Prelude.{IfOk, OnErr, map};
 ghost use Rattle.css_job.specs.Words.{word};
 ghost use Rattle.css_job.specs.Outside.{moment, Ends, RanOut, Runs};
-ghost use Rattle.css_job.specs.Causes.{UsageCause, ReadCause, WriteCause, NotBuiltCause, StatusCause, WarnedCause, Unfailed, Completes};
+ghost use Rattle.css_job.specs.Causes.{UsageCause, ReadCause, WriteCause, TooLargeCause, NotUtf8Cause, SyntaxCause, SyntaxErrorCause, StatusCause, WarnedCause, UnchangedCause, Unfailed, Completes};
 
 use crate::carry_out::carry_out;
 use crate::fault::Fault;
@@ -69,14 +69,30 @@ pub fn run<S: Source, O: Sink, E: Sink>(
     ensures read_fault { IfOk result (ReadCause (map word words.now)
         (moment S.Source O.Sink E.Sink input.old out.old err.old)
         (moment S.Source O.Sink E.Sink input.new out.new err.new)) }
-    ensures not_built { IfOk result (NotBuiltCause (map word words.now)
+    ensures too_large { IfOk result (TooLargeCause (map word words.now)
+        (moment S.Source O.Sink E.Sink input.old out.old err.old)
+        (moment S.Source O.Sink E.Sink input.new out.new err.new)) }
+    ensures not_utf8 { IfOk result (NotUtf8Cause (map word words.now)
+        (moment S.Source O.Sink E.Sink input.old out.old err.old)
+        (moment S.Source O.Sink E.Sink input.new out.new err.new)) }
+    ensures syntax { IfOk result (SyntaxCause (map word words.now)
         (moment S.Source O.Sink E.Sink input.old out.old err.old)
         (moment S.Source O.Sink E.Sink input.new out.new err.new)) }
     ensures write_fault { IfOk result (WriteCause (map word words.now)
         (moment S.Source O.Sink E.Sink input.old out.old err.old)
         (moment S.Source O.Sink E.Sink input.new out.new err.new)) }
-    ensures status { IfOk result StatusCause }
-    ensures warned { IfOk result (WarnedCause (moment S.Source O.Sink E.Sink input.old out.old err.old)) }
+    ensures status { IfOk result (StatusCause (map word words.now)) }
+
+    // What the commands write.
+    ensures unchanged { IfOk result (UnchangedCause (map word words.now)
+        (moment S.Source O.Sink E.Sink input.old out.old err.old)
+        (moment S.Source O.Sink E.Sink input.new out.new err.new)) }
+    ensures css_syntax_error { IfOk result (SyntaxErrorCause (map word words.now)
+        (moment S.Source O.Sink E.Sink input.old out.old err.old)
+        (moment S.Source O.Sink E.Sink input.new out.new err.new)) }
+    ensures warned { IfOk result (WarnedCause (map word words.now)
+        (moment S.Source O.Sink E.Sink input.old out.old err.old)
+        (moment S.Source O.Sink E.Sink input.new out.new err.new)) }
 
     // Without a cause there is no fault, and without a fault no call has failed.
     ensures complete { IfOk result (Completes (map word words.now)

@@ -2,7 +2,16 @@
 ghost use Rattle.std.specs.Prelude.{◌≡◌, map, nat_eq};
 ghost use Rattle.std.specs.Str.{chars};
 ghost use Rattle.std.specs.Cmp.Lexicographic.{pointwise};
-ghost use Rattle.css_job.specs.Words.{word, are_taken};
+ghost use Rattle.css_job.specs.Words.{word, named, command_of};
+
+/// What the program can be asked to do.
+#[derive(Clone, Copy, PartialEq, Eq, Debug)]
+pub enum Command {
+    /// Read a sheet, and print it.
+    Transform,
+    /// Read a sheet, and report on it.
+    Lint,
+}
 
 /// The word is this name.
 fn is_word(given: &String, name: &str) -> bool
@@ -11,12 +20,25 @@ fn is_word(given: &String, name: &str) -> bool
     given.as_str() == name
 }
 
-/// The words are those of a command that the program knows.
-pub fn takes(words: &[String]) -> bool
-    ensures { result ≡ are_taken (map word words.now) }
+/// The command of that name.
+fn command_named(given: &String) -> Option<Command>
+    ensures { result ≡ named (word given.now) }
+{
+    if is_word(given, "transform") {
+        Some(Command::Transform)
+    } else if is_word(given, "lint") {
+        Some(Command::Lint)
+    } else {
+        None
+    }
+}
+
+/// The command that the words are for; none where they are for no command that the program knows.
+pub fn command_of(words: &[String]) -> Option<Command>
+    ensures { result ≡ command_of (map word words.now) }
 {
     match words {
-        [given] => is_word(given, "lint"),
-        _ => false,
+        [given] => command_named(given),
+        _ => None,
     }
 }

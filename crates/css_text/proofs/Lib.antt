@@ -19,3 +19,5 @@ pub mod AsciiTests
 pub mod PieceKinds
 pub mod Reader
 pub mod ReaderStart
+pub mod ValueParts
+pub mod ValueRows

@@ -80,6 +80,7 @@ impl Text {
     pub fn as_str(&self) -> &str
         ensures bytes { result.now ≡ encode_utf8_all self.now }
         ensures characters { chars result.now ≡ self.now }
+        ensures short { length result.now ≤ 67108864 }
     {
         self.text.as_str()
     }

@@ -1,0 +1,83 @@
+#!/bin/sh
+# csswork beside PostCSS on the same sheets.
+#
+#   bench/peers.sh
+#
+# Takes bootstrap.css of Debian's libjs-bootstrap5 and PostCSS of Debian's node-postcss, which are installed by name where they
+# are missing and can be; else what lacks is skipped. For the sheet, and for thirty copies of it in one sheet of about 7 MB, it
+# prints the wall time (the best of three) and the peak memory of the whole processes: csswork transform, csswork lint, and
+# PostCSS parsing and printing; and the ratios to PostCSS. The outputs are compared with the input, byte for byte.
+set -u
+top=$(cd "$(dirname "$0")/.." && pwd)
+work=$(mktemp -d)
+trap 'rm -rf "$work"' EXIT
+
+# have PACKAGE: whether Debian's package is installed, or can be.
+have() {
+    dpkg -s "$1" >/dev/null 2>&1 || apt-get install -y --no-install-recommends "$1" >/dev/null 2>&1
+}
+
+have libjs-bootstrap5 || { echo 'peers: libjs-bootstrap5 is not there, so nothing was measured'; exit 0; }
+sheet=$(dpkg -L libjs-bootstrap5 | grep '/bootstrap\.css$' | head -n 1)
+cp "$sheet" "$work/bootstrap.css"
+for _ in 1 2 3 4 5 6 7 8 9 10 11 12 13 14 15 16 17 18 19 20 21 22 23 24 25 26 27 28 29 30; do
+    cat "$sheet"
+done >"$work/thirty.css"
+
+cat >"$work/postcss.js" <<'JS'
+const { readFileSync, writeSync } = require('fs')
+const postcss = require('postcss')
+const text = readFileSync(0, 'utf8')
+const bytes = Buffer.from(postcss.parse(text).toString())
+for (let at = 0; at < bytes.length; ) at += writeSync(1, bytes, at)
+JS
+peer=no
+if have node-postcss && command -v node >/dev/null 2>&1; then
+    peer=yes
+    NODE_PATH=/usr/share/nodejs
+    export NODE_PATH
+fi
+
+# The first run proves and builds the program where that is to be done.
+"$top/csswork" </dev/null >/dev/null 2>&1
+
+# run NAME SHEET WANTED-STATUS WORD..
+run() {
+    name=$1
+    input=$2
+    wanted=$3
+    shift 3
+    # shellcheck disable=SC2046
+    set -- $(python3 "$top/bench/measure.py" "$input" "$work/out" "$@")
+    seconds=$1
+    memory=$2
+    case " $wanted " in
+        *" $3 "*) ;;
+        *) echo "peers: $name ended with status $3" ;;
+    esac
+    printf '  %-20s %8s s %8s MiB\n' "$name" "$seconds" "$memory"
+}
+
+same() {
+    cmp -s "$1" "$work/out" || echo "peers: $2 changed the sheet"
+}
+
+for name in bootstrap thirty; do
+    input=$work/$name.css
+    echo "$name.css, $(wc -c <"$input") bytes"
+    run 'csswork transform' "$input" 0 "$top/csswork" transform
+    same "$input" 'csswork transform'
+    transform=$seconds
+    held=$memory
+    run 'csswork lint' "$input" '0 2' "$top/csswork" lint
+    lint=$seconds
+    if [ "$peer" = yes ]; then
+        run 'PostCSS' "$input" 0 node "$work/postcss.js"
+        same "$input" 'PostCSS'
+        awk -v t="$transform" -v h="$held" -v l="$lint" -v p="$seconds" -v m="$memory" 'BEGIN {
+            printf "  PostCSS takes %.1f times as long as transform, %.1f times as long as lint, and %.1f times the memory of transform\n", p / t, p / l, m / h
+        }'
+    else
+        echo '  PostCSS is not there, and was skipped'
+    fi
+done

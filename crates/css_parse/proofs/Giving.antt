@@ -1,0 +1,194 @@
+-- Blanks that are given back to a container, and its end.
+use Rattle.std.proofs.Common.{◌≡◌, ℕ, suc, zero, ◌<◌, List, [], ◌∷◌, ◌++◌, Bool, true, false, length, refl, ◌∙◌, sym, ap, append_assoc, append-nil, arith, get_or, set, Some}
+use Rattle.node_store.specs.declared.node_list.NodeAt.{NodeAt}
+use Rattle.css_tree.specs.declared.node.NodeText.{NodeText}
+use Rattle.css_tree.specs.Pieces.{Piece, Shape, shape, is_blank, is_blank_shape, join, end_of}
+use Rattle.css_tree.specs.Nodes.{Nodes, comment, ends_with_semicolon}
+use Rattle.css_tree.specs.Classes.{Each, BeginsWithout}
+use Rattle.css_tree.specs.Turn.{closes}
+use Rattle.css_tree.proofs.Split.{solid, solid_by, tail}
+use Rattle.css_tree.proofs.Reader.{Group, settle, settle_by, last_nodes}
+use Rattle.css_tree.proofs.Printed.{join-append}
+use Rattle.css_parse.specs.declared.turn.Frame.{Frame}
+use Rattle.css_parse.specs.declared.piece.Shape.{Shape as Form}
+use Rattle.css_parse.specs.declared.piece.Shape.TheVariants as FormOf
+use Rattle.css_parse.specs.Shapes.{named}
+use Rattle.css_parse.specs.Gaps.{gap_of}
+use Rattle.css_parse.specs.Machine.{flat, comment_node, leaf_node, alter, seal, seal_root, with_block, Machine, given, sealed, left, next}
+use Rattle.css_parse.proofs.Joins.{join-nil}
+use Rattle.css_parse.proofs.MachineSteps.{alter-append, gap-join, more-gap}
+
+-- the nodes once these blanks are given back, behind a gap with that text, and the text behind them
+unfoldable pub given_nodes : ℕ → List NodeAt → List ℕ → List Piece → List NodeAt
+given_nodes j ns g bl = ns ++ flat j (length ns) (settle (gap_of g) bl).nodes
+
+unfoldable pub given_behind : List ℕ → List Piece → List ℕ
+given_behind g bl = join (settle (gap_of g) bl).behind
+
+length-snoc : (ns : List NodeAt) (x : NodeAt) → length (ns ++ x ∷ []) ≡ suc (length ns)
+length-snoc [] x = refl
+length-snoc (y ∷ ns) x = ap suc (length-snoc ns x)
+
+-- two gaps with one text
+record Alike (q k : Group) : Type 0 where
+  nodes : (j n : ℕ) → flat j n q.nodes ≡ flat j n k.nodes
+  behind : join q.behind ≡ join k.behind
+
+settle_by-alike : (s : Shape) (g h : List Piece) (p : Piece) (k : List Piece → Group) → join g ≡ join h → ((g h : List Piece) → join g ≡ join h → Alike (k g) (k h)) → Alike (settle_by s g p k) (settle_by s h p k)
+unfolding flat
+settle_by-alike Shape.space g h p k e ih = ih (g ++ p ∷ []) (h ++ p ∷ []) (join-append g (p ∷ []) ∙ (ap (λ z. z ++ join (p ∷ [])) e ∙ sym (join-append h (p ∷ []))))
+settle_by-alike _ g h p k e ih = record { nodes = λ j n. ap (λ z. comment_node j z p ∷ flat j (suc n) (k []).nodes) e; behind = refl }
+
+alike : (bl g h : List Piece) → join g ≡ join h → Alike (settle g bl) (settle h bl)
+unfolding settle flat
+alike [] g h e = record { nodes = λ j n. refl; behind = e }
+alike (p ∷ bl) g h e = settle_by-alike (shape p) g h p (λ g'. settle g' bl) e (λ g h e. alike bl g h e)
+
+alike-nodes : (j : ℕ) (ns : List NodeAt) (bl g h : List Piece) → join g ≡ join h → ns ++ flat j (length ns) (settle g bl).nodes ≡ ns ++ flat j (length ns) (settle h bl).nodes
+alike-nodes j ns bl g h e = ap (λ z. ns ++ z) ((alike bl g h e).nodes j (length ns))
+
+pub given-nodes_space : (j : ℕ) (ns : List NodeAt) (g : List ℕ) (p : Piece) (bl : List Piece) → shape p ≡ Shape.space → given_nodes j ns g (p ∷ bl) ≡ given_nodes j ns (g ++ p.text) bl
+unfolding given_nodes settle
+given-nodes_space j ns g p bl e =
+    ap (λ s. ns ++ flat j (length ns) (settle_by s (gap_of g) p (λ g'. settle g' bl)).nodes) e ∙ alike-nodes j ns bl (gap_of g ++ p ∷ []) (gap_of (g ++ p.text)) (more-gap g p)
+
+pub given-behind_space : (g : List ℕ) (p : Piece) (bl : List Piece) → shape p ≡ Shape.space → given_behind g (p ∷ bl) ≡ given_behind (g ++ p.text) bl
+unfolding given_behind settle
+given-behind_space g p bl e =
+    ap (λ s. join (settle_by s (gap_of g) p (λ g'. settle g' bl)).behind) e ∙ (alike bl (gap_of g ++ p ∷ []) (gap_of (g ++ p.text)) (more-gap g p)).behind
+
+settle_by-comment : (s : Shape) (g : List Piece) (p : Piece) (k : List Piece → Group) → (s ≡ Shape.space → ⊥) → settle_by s g p k ≡ record { nodes = comment g p (k []).nodes; behind = (k []).behind }
+settle_by-comment Shape.space g p k e = absurd (e refl)
+settle_by-comment _ g p k e = refl
+
+pub given-nodes_comment : (j : ℕ) (ns : List NodeAt) (g : List ℕ) (p : Piece) (bl : List Piece) → (shape p ≡ Shape.space → ⊥) → given_nodes j ns g (p ∷ bl) ≡ given_nodes j (ns ++ comment_node j g p ∷ []) [] bl
+unfolding given_nodes settle flat
+given-nodes_comment j ns g p bl e =
+    ap (λ z. ns ++ flat j (length ns) z.nodes) (settle_by-comment (shape p) (gap_of g) p (λ g'. settle g' bl) e)
+    ∙ (ap (λ z. ns ++ comment_node j z p ∷ flat j (suc (length ns)) (settle [] bl).nodes) (gap-join g)
+    ∙ (sym (append_assoc ns (comment_node j g p ∷ []) (flat j (suc (length ns)) (settle [] bl).nodes))
+    ∙ (ap (λ z. (ns ++ comment_node j g p ∷ []) ++ flat j z (settle [] bl).nodes) (sym (length-snoc ns (comment_node j g p)))
+    ∙ alike-nodes j (ns ++ comment_node j g p ∷ []) bl [] (gap_of []) (join-nil ∙ sym (gap-join [])))))
+
+pub given-behind_comment : (g : List ℕ) (p : Piece) (bl : List Piece) → (shape p ≡ Shape.space → ⊥) → given_behind g (p ∷ bl) ≡ given_behind [] bl
+unfolding given_behind settle
+given-behind_comment g p bl e =
+    ap (λ z. join z.behind) (settle_by-comment (shape p) (gap_of g) p (λ g'. settle g' bl) e) ∙ (alike bl [] (gap_of []) (join-nil ∙ sym (gap-join []))).behind
+
+pub given-nodes_none : (j : ℕ) (ns : List NodeAt) (g : List ℕ) → given_nodes j ns g [] ≡ ns
+unfolding given_nodes settle flat
+given-nodes_none j ns g = append-nil ns
+
+pub given-behind_none : (g : List ℕ) → given_behind g [] ≡ g
+unfolding given_behind settle
+given-behind_none g = gap-join g
+
+-- At an index of the blanks.
+
+pub blank-comment : (p : Piece) → is_blank p ≡ true → (shape p ≡ Shape.space → ⊥) → shape p ≡ Shape.comment
+unfolding is_blank
+blank-comment p b n = by_shape (shape p) refl b
+  where
+    by_shape : (s : Shape) → shape p ≡ s → is_blank_shape s ≡ true → shape p ≡ Shape.comment
+    by_shape Shape.space e b = absurd (n e)
+    by_shape Shape.comment e b = e
+    by_shape _ e b = absurd (cc)
+
+pub each-at : (ps : List Piece) (i : ℕ) (d : Piece) → i < length ps → Each is_blank ps → is_blank (get_or ps i d) ≡ true
+each-at [] i d l h = absurd (omega arith)
+each-at (p ∷ ps) zero d l h = h.0
+each-at (p ∷ ps) (suc i) d l h = each-at ps i d (omega arith) h.1
+
+-- The end of a container.
+
+settle_by-ended : (s : Shape) (g : List Piece) (p : Piece) (k : List Piece → Group) → ((g' : List Piece) → ends_with_semicolon false (k g').nodes ≡ false) → ends_with_semicolon false (settle_by s g p k).nodes ≡ false
+unfolding ends_with_semicolon
+settle_by-ended Shape.space g p k h = h (g ++ p ∷ [])
+settle_by-ended _ g p k h = h []
+
+settle-ended : (bl g : List Piece) → ends_with_semicolon false (settle g bl).nodes ≡ false
+unfolding settle ends_with_semicolon
+settle-ended [] g = refl
+settle-ended (p ∷ bl) g = settle_by-ended (shape p) g p (λ g'. settle g' bl) (settle-ended bl)
+
+pub given-run : (j : ℕ) (ns : List NodeAt) (s : Bool) (g : List ℕ) (r : List Piece) → (r ≡ [] → ⊥)
+    → (ns ++ flat j (length ns) (last_nodes (gap_of g) r).nodes ≡ given_nodes j (ns ++ leaf_node j g (solid r) ∷ []) [] (tail r))
+    × (ends_with_semicolon s (last_nodes (gap_of g) r).nodes ≡ false) × (join (last_nodes (gap_of g) r).behind ≡ given_behind [] (tail r))
+unfolding flat ends_with_semicolon given_nodes given_behind
+given-run j ns s g [] e = absurd (e refl)
+given-run j ns s g (q ∷ r) e =
+    let x : NodeAt = leaf_node j g (solid (q ∷ r)) in
+    let n : Nodes = (settle [] (tail (q ∷ r))).nodes in (
+      ap (λ z. ns ++ leaf_node j z (solid (q ∷ r)) ∷ flat j (suc (length ns)) n) (gap-join g)
+          ∙ (sym (append_assoc ns (x ∷ []) (flat j (suc (length ns)) n))
+          ∙ (ap (λ z. (ns ++ x ∷ []) ++ flat j z n) (sym (length-snoc ns x)) ∙ alike-nodes j (ns ++ x ∷ []) (tail (q ∷ r)) [] (gap_of []) (join-nil ∙ sym (gap-join [])))),
+      settle-ended (tail (q ∷ r)) [],
+      (alike (tail (q ∷ r)) [] (gap_of []) (join-nil ∙ sym (gap-join []))).behind,
+    )
+
+pub given-idle : (s : Machine) → s.run ≡ [] → given s ≡ s
+unfolding flat ends_with_semicolon
+given-idle s e = idle_given s.nodes s.number s.semicolon s.frames s.gap s.run s.awaited e
+  where
+    idle_given : (ns : List NodeAt) (j : ℕ) (b : Bool) (fs : List Frame) (g : List ℕ) (r aw : List Piece) → r ≡ []
+        → given (record { nodes = ns; number = j; semicolon = b; frames = fs; gap = g; run = r; awaited = aw }) ≡ record { nodes = ns; number = j; semicolon = b; frames = fs; gap = g; run = r; awaited = aw }
+    idle_given ns j b fs g [] aw e =
+        ap (λ z. record { nodes = z; number = j; semicolon = b; frames = fs; gap = join (gap_of g); run = []; awaited = aw }) (append-nil ns)
+        ∙ ap (λ z. record { nodes = ns; number = j; semicolon = b; frames = fs; gap = z; run = []; awaited = aw }) (gap-join g)
+    idle_given ns j b fs g (q ∷ r) aw e = absurd (cc)
+
+pub alter-set : (ns : List NodeAt) (j : ℕ) (h : NodeAt → NodeAt) (d : NodeAt) → j < length ns → alter j h ns ≡ set ns j (h (get_or ns j d))
+unfolding alter
+alter-set [] j h d l = absurd (omega arith)
+alter-set (x ∷ ns) zero h d l = refl
+alter-set (x ∷ ns) (suc j) h d l = ap (λ z. x ∷ z) (alter-set ns j h d (omega arith))
+
+-- closing a block is giving back, sealing and leaving
+pub close-steps : (s : Machine) (p : Piece) → s.number < length s.nodes → left (sealed (given s) p) ≡ next s p closes
+close-steps s p l =
+    let q : Group = last_nodes (gap_of s.gap) s.run in
+    ap (λ z. left (record (given s) { nodes = z })) (alter-append s.number (seal (ends_with_semicolon s.semicolon q.nodes) (join q.behind) p) s.nodes _ l)
+
+abbrev with_parts : Machine → List NodeAt → Bool → List ℕ → Machine
+with_parts s ns b g = record { nodes = ns; number = s.number; semicolon = b; frames = s.frames; gap = g; run = []; awaited = s.awaited }
+
+pub give-back : (s : Machine) (ns : List NodeAt) (g : List ℕ) → (s.run ≡ [] → ⊥)
+    → ns ≡ given_nodes s.number (s.nodes ++ leaf_node s.number s.gap (solid s.run) ∷ []) [] (tail s.run) → g ≡ given_behind [] (tail s.run)
+    → record { nodes = ns; number = s.number; semicolon = false; frames = s.frames; gap = g; run = []; awaited = s.awaited } ≡ given s
+give-back s ns g e e1 e2 =
+    let k = given-run s.number s.nodes s.semicolon s.gap s.run e in
+    ap (λ z. with_parts s z false g) (e1 ∙ sym k.0) ∙ (ap (λ z. with_parts s (given s).nodes z g) (sym k.1) ∙ ap (λ z. with_parts s (given s).nodes (given s).semicolon z) (e2 ∙ sym k.2))
+
+-- the shape that is no white space
+pub named-space : (s : Form) → named s ≡ Shape.space → s ≡ FormOf.Space
+named-space FormOf.Space e = refl
+named-space _ e = absurd (cc)
+
+pub solid-some : (r : List Piece) → (r ≡ [] → ⊥) → BeginsWithout is_blank r → 0 < length (solid r)
+unfolding solid_by
+solid-some [] n h = absurd (n refl)
+solid-some (q ∷ r) n h = rw h (omega arith)
+
+abbrev with_nodes : Machine → List NodeAt → Machine
+with_nodes s ns = record { nodes = ns; number = s.number; semicolon = s.semicolon; frames = s.frames; gap = s.gap; run = s.run; awaited = s.awaited }
+
+-- the open container with its end
+pub sealed-node : (s : Machine) (p : Piece) (x d : NodeAt) (t : NodeText) (e : ℕ) → s.number < length s.nodes → x ≡ get_or s.nodes s.number d
+    → t ≡ with_block x.text (record { semicolon = s.semicolon; after = Some s.gap }) → e ≡ end_of p
+    → record { nodes = set s.nodes s.number (record { parent = x.parent; text = t; span = record { start = x.span.start; end = e } }); number = s.number; semicolon = s.semicolon; frames = s.frames; gap = s.gap; run = s.run; awaited = s.awaited } ≡ sealed s p
+sealed-node s p x d t e l ex et ee =
+    ap (with_nodes s)
+    (ap (λ y. set s.nodes s.number y)
+    (ap (λ z. record { parent = x.parent; text = z; span = record { start = x.span.start; end = e } }) et
+    ∙ (ap (λ z. record { parent = x.parent; text = with_block x.text (record { semicolon = s.semicolon; after = Some s.gap }); span = record { start = x.span.start; end = z } }) ee
+    ∙ ap (seal s.semicolon s.gap p) ex))
+    ∙ sym (alter-set s.nodes s.number (seal s.semicolon s.gap p) d l))
+
+pub sealed-root : (b : Bool) (g : List ℕ) (ns : List NodeAt) (n : ℕ) (x d : NodeAt) (t : NodeText) → n < length ns → x ≡ get_or ns n d
+    → t ≡ with_block x.text (record { semicolon = b; after = Some g })
+    → set ns n (record { parent = x.parent; text = t; span = x.span }) ≡ alter n (seal_root b g) ns
+sealed-root b g ns n x d t l ex et =
+    ap (λ y. set ns n y) (ap (λ z. record { parent = x.parent; text = z; span = x.span }) et ∙ ap (seal_root b g) ex)
+    ∙ sym (alter-set ns n (seal_root b g) d l)
+
+pub ruleset given_steps = (given-nodes_space, given-behind_space, given-nodes_comment, given-behind_comment, given-nodes_none, given-behind_none)

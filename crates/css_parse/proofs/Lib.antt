@@ -1,0 +1,17 @@
+pub mod Heads
+pub mod Trailing
+pub mod Ascii
+pub mod Joins
+pub mod Trimming
+pub mod Marks
+pub mod MarkPieces
+pub mod Turns
+pub mod FieldTexts
+pub mod MachineSteps
+pub mod Giving
+pub mod Loop
+pub mod Listed
+pub mod Order
+pub mod NodeFacts
+pub mod FaultPlaces
+pub mod ListFacts

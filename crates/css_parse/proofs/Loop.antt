@@ -1,0 +1,163 @@
+-- The loop over the pieces of a text.
+use Rattle.std.proofs.Common.{◌≡◌, ℕ, ◌+◌, ◌-◌, ◌<◌, ◌≤◌, List, [], ◌∷◌, Option, Some, None, Result, Ok, Err, Vec, Global, length, take, drop, refl, ◌∙◌, sym, ap, subst, arith}
+use Rattle.std.specs.Str.{chars, IsUtf8, IsCharBoundary}
+use Rattle.css_text.specs.declared.lexer.Piece.{Piece as LexPiece}
+use Rattle.css_text.specs.declared.lexer.LexFault.{LexFault}
+use Rattle.css_text.specs.Pieces.{Unclosed, string, comment, url, Token, cut}
+use Rattle.css_text.specs.PieceKinds.{IsOfKind, AreOfKinds}
+use Rattle.css_text.specs.Ahead.{Ahead, fault_at, next_of, rest_of, byte_len, begins_bom, bom_len, without_bom, pieces}
+use Rattle.css_text.proofs.PieceKinds.{cut_kinds}
+use Rattle.css_text.proofs.Slices.{slice_chars, byte_len_some}
+use Rattle.css_text.proofs.Reader.{IsAt, Next, at_next, at_end, at_fault}
+use Rattle.css_text.proofs.ReaderStart.{at_start}
+use Rattle.css_tree.proofs.Reader.{outcome}
+use Rattle.css_tree.specs.Pieces.{Piece, shape, shape_of, located, pieces_of, end_of, last_end}
+use Rattle.css_tree.specs.Fault.{Fault, lexical_at, lexical_fault}
+use Rattle.css_tree.proofs.Formed.{FormedBy, AllFormed, cut-formed}
+use Rattle.css_parse.specs.Machine.{Machine, answer, faulty, start, IsReady}
+use Rattle.css_text.specs.declared.stop.Stop.{Stop}
+use Rattle.css_text.specs.declared.stop.Stop.TheVariants as StopOf
+use Rattle.node_store.specs.declared.node_list.NodeAt.{NodeAt}
+use Rattle.css_parse.specs.Model.{IsSmall, Advances, IsStop, IsEnd}
+use Rattle.css_parse.specs.Reading.{whole, IsRead}
+use Rattle.css_parse.specs.Lexical.{found_of}
+
+-- The reader is at the byte `at`; the pieces that are left come from this state to what the whole text comes to.
+pub record Reading (s bs : List ℕ) (lexer : Ahead) (m : Machine) : Type 0 where
+  pub tokens : List Token
+  pub rest : List ℕ
+  pub fault : Option Unclosed
+  pub at : ℕ
+  pub is_at : IsAt bs at tokens rest fault lexer
+  pub ready : IsReady m
+  pub small : IsSmall m at
+  pub kinds : AreOfKinds tokens
+  pub formed : AllFormed (located at tokens)
+  pub same : whole s ≡ answer m (located at tokens) (lexical_at (last_end at (located at tokens)) fault)
+
+pub at_begin : (bs : List ℕ) (lexer : Ahead) (m : Machine) → IsUtf8 bs → lexer ≡ pieces (chars bs) → m ≡ start (begins_bom (chars bs)) (byte_len (chars bs)) → Reading (chars bs) bs lexer m
+unfolding pieces_of lexical_fault
+at_begin bs lexer m u e h =
+    let b = at_start bs lexer u e in
+    let c = cut (without_bom (chars bs)) in
+    subst (Reading (chars bs) bs lexer) (sym h) (record {
+      tokens = c.tokens;
+      rest = b.rest;
+      fault = c.fault;
+      at = bom_len (chars bs);
+      is_at = b.at;
+      ready = record { known = omega arith; known_outer = tt; idle = λ _. refl; begun = tt };
+      small = omega arith;
+      kinds = cut_kinds (without_bom (chars bs));
+      formed = cut-formed (without_bom (chars bs)) (bom_len (chars bs));
+      same = refl;
+    })
+
+-- the piece with its characters
+abbrev pub seen : List ℕ → LexPiece → Piece
+seen bs p = record { kind = p.kind; at = p.span.start; text = chars (take (p.span.end - p.span.start) (drop p.span.start bs)) }
+
+-- what is known of the piece that comes next
+pub record Taken (s bs : List ℕ) (lexer : Ahead) (m : Machine) (p : LexPiece) : Type 0 where
+  pub some : p.span.start < p.span.end
+  pub low : IsCharBoundary bs p.span.start
+  pub high : IsCharBoundary bs p.span.end
+  pub kind : IsOfKind p.kind (seen bs p).text
+  pub formed : FormedBy (shape_of p.kind (seen bs p).text) (seen bs p).text
+  pub ready : IsReady m
+  pub small : IsSmall m (seen bs p).at
+  pub longer : (seen bs p).at < end_of (seen bs p)
+  pub within : (seen bs p).at ≤ length bs
+  pub fewer : length (rest_of lexer.pieces) < length lexer.pieces
+  pub on : (n : Machine) → IsReady n → IsSmall n (end_of (seen bs p)) → Advances m (seen bs p) n → Reading s bs (record { pieces = rest_of lexer.pieces; fault = lexer.fault }) n
+  pub stop : (f : Fault) → ((ps : List Piece) (lex : Option Fault) → answer m (seen bs p ∷ ps) lex ≡ faulty f) → whole s ≡ faulty f
+
+taken_by : (s bs : List ℕ) (lexer : Ahead) (m : Machine) (p : LexPiece) (h : Reading s bs lexer m) → IsUtf8 bs → Next bs h.at h.tokens h.rest h.fault lexer p → Taken s bs lexer m p
+unfolding shape
+taken_by s bs lexer m p h u x =
+    let t = x.token in
+    let q : Piece = record { kind = t.kind; at = h.at; text = t.text } in
+    let text : chars (take (p.span.end - p.span.start) (drop p.span.start bs)) ≡ t.text = slice_chars bs p.span.start p.span.end t.text u x.slice in
+    let is : seen bs p ≡ q = ap (λ z. record { kind = z.kind; at = z.span.start; text = chars (take (p.span.end - p.span.start) (drop p.span.start bs)) }) x.is ∙ ap (λ z. record { kind = t.kind; at = h.at; text = z }) text in
+    let k = subst AreOfKinds x.are h.kinds in
+    let f = subst (λ z. AllFormed (located h.at z)) x.are h.formed in
+    let same : whole s ≡ answer m (q ∷ located (end_of q) x.others) (lexical_at (last_end (end_of q) (located (end_of q) x.others)) h.fault) =
+    subst (λ z. whole s ≡ answer m (located h.at z) (lexical_at (last_end h.at (located h.at z)) h.fault)) x.are h.same in
+    let end : p.span.end ≡ end_of q = ap (λ z. z.span.end) x.is in
+    let begin : p.span.start ≡ h.at = ap (λ z. z.span.start) x.is in
+    let long : h.at < end_of q = some_bytes h.at t.text k.0 in
+    record {
+      some = omega (arith, begin, end, long);
+      low = x.slice.low;
+      high = x.slice.high;
+      kind = subst (λ z. IsOfKind z.kind z.text) (sym is) k.1;
+      formed = subst (λ z. FormedBy (shape_of z.kind z.text) z.text) (sym is) f.0;
+      ready = h.ready;
+      small = subst (λ z. IsSmall m z) (sym begin) h.small;
+      longer = subst (λ z. z.at < end_of z) (sym is) long;
+      within = omega (arith, x.slice.order, x.slice.fits);
+      fewer = x.fewer;
+      on = λ n r l a. record {
+        tokens = x.others;
+        rest = h.rest;
+        fault = h.fault;
+        at = p.span.end;
+        is_at = x.next;
+        ready = r;
+        small = subst (λ z. IsSmall n z) (ap end_of is ∙ sym end) l;
+        kinds = k.2;
+        formed = subst (λ z. AllFormed (located z x.others)) (sym end) f.2;
+        same = subst (λ z. whole s ≡ answer n (located z x.others) (lexical_at (last_end z (located z x.others)) h.fault)) (sym end)
+            (same ∙ subst (λ z. answer m (z ∷ located (end_of q) x.others) (lexical_at (last_end (end_of q) (located (end_of q) x.others)) h.fault) ≡ answer n (located (end_of q) x.others) (lexical_at (last_end (end_of q) (located (end_of q) x.others)) h.fault)) is (a _ _));
+      };
+      stop = λ g a. same ∙ subst (λ z. answer m (z ∷ located (end_of q) x.others) (lexical_at (last_end (end_of q) (located (end_of q) x.others)) h.fault) ≡ faulty g) is (a _ _);
+    }
+  where
+    some_bytes : (at : ℕ) (t : List ℕ) → 0 < length t → at < at + byte_len t
+    some_bytes at [] l = absurd (omega arith)
+    some_bytes at (c ∷ cs) l = omega (arith, byte_len_some c cs)
+
+pub taken : (s bs : List ℕ) (lexer : Ahead) (m : Machine) (p : LexPiece) → IsUtf8 bs → Reading s bs lexer m → next_of lexer.pieces lexer.fault ≡ Ok (Some p) → Taken s bs lexer m p
+taken s bs lexer m p u h e = taken_by s bs lexer m p h u (at_next bs h.at h.tokens h.rest h.fault lexer p h.is_at e)
+
+-- behind the last piece
+pub ended : (s bs : List ℕ) (lexer : Ahead) (m : Machine) → Reading s bs lexer m → next_of lexer.pieces lexer.fault ≡ Ok None → whole s ≡ answer m [] None
+ended s bs lexer m h e =
+    let x = at_end bs h.at h.tokens h.rest h.fault lexer h.is_at e in
+    h.same ∙ (ap (λ z. answer m (located h.at z) (lexical_at (last_end h.at (located h.at z)) h.fault)) x.0 ∙ ap (λ z. answer m [] (lexical_at h.at z)) x.1)
+
+lex-answer : (m : Machine) (f : Fault) → answer m [] (Some f) ≡ faulty f
+unfolding answer outcome
+lex-answer m f = refl
+
+found-is : (at : ℕ) (u : Unclosed) → lexical_at at (Some u) ≡ Some (found_of (fault_at at u))
+found-is at string = refl
+found-is at comment = refl
+found-is at url = refl
+
+pub record Broken (s bs : List ℕ) (x : LexFault) : Type 0 where
+  pub within : (found_of x).at ≤ length bs
+  pub answers : whole s ≡ faulty (found_of x)
+
+found-at : (at : ℕ) (u : Unclosed) → (found_of (fault_at at u)).at ≡ at
+found-at at string = refl
+found-at at comment = refl
+found-at at url = refl
+
+pub broken : (s bs : List ℕ) (lexer : Ahead) (m : Machine) (x : LexFault) → Reading s bs lexer m → next_of lexer.pieces lexer.fault ≡ Err x → Broken s bs x
+broken s bs lexer m x h e =
+    let k = at_fault bs h.at h.tokens h.rest h.fault lexer x h.is_at e in
+    record {
+      within = subst (λ z. (found_of z).at ≤ length bs) (sym k.3) (subst (λ z. z ≤ length bs) (sym (found-at h.at k.0)) h.is_at.here.fits);
+      answers = h.same ∙ (ap (λ z. answer m (located h.at z) (lexical_at (last_end h.at (located h.at z)) h.fault)) k.1
+          ∙ (ap (λ z. answer m [] (lexical_at h.at z)) k.2 ∙ (ap (λ z. answer m [] z) (found-is h.at k.0) ∙ (lex-answer m (found_of (fault_at h.at k.0)) ∙ ap (λ z. faulty (found_of z)) (sym k.3)))));
+    }
+
+pub read_end : (r : Result (Vec NodeAt Global) (Stop Fault)) (s : List ℕ) (m : Machine) → whole s ≡ answer m [] None → IsEnd r m → IsRead r s
+read_end (Ok v) s m e h = e ∙ h
+read_end (Err (StopOf.Fault f)) s m e h = e ∙ h
+read_end (Err (StopOf.Memory x)) s m e h = tt
+
+pub read_stop : (x : Stop Fault) (s : List ℕ) (m : Machine) (p : Piece) → ((f : Fault) → ((ps : List Piece) (lex : Option Fault) → answer m (p ∷ ps) lex ≡ faulty f) → whole s ≡ faulty f) → IsStop x m p → IsRead (Err x) s
+read_stop (StopOf.Fault f) s m p e h = e f h
+read_stop (StopOf.Memory x) s m p e h = tt

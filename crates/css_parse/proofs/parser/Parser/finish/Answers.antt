@@ -1,0 +1,21 @@
+use Rattle.std.proofs.Common.{◌≡◌, ap, ◌∙◌, sym, List}
+use Rattle.node_store.specs.declared.node_list.NodeAt.{NodeAt}
+use Rattle.css_parse.specs.Machine.{alter, seal_root, done, Machine}
+use Rattle.css_parse.specs.Model.{model}
+use Rattle.css_parse.proofs.MachineSteps.{end-fault_answer, end_answer, at_end}
+use Rattle.css_parse.proofs.parser.Parser.finish.Goals as goal
+use Rattle.css_parse.proofs.parser.Parser.finish.Goals.{After-fits_end}
+
+fitted : (c : After-fits_end) → c.fits_end.result ≡ at_end (model c.args.self)
+fitted c = rw (c.deref.ensures.value, c.deref-2.ensures.value) at c.fits_end.ensures
+
+sealed_nodes : Machine → List NodeAt
+sealed_nodes m = alter m.number (seal_root m.semicolon m.gap) m.nodes
+
+pub returns-in-Some : goal.returns-in-Some
+returns-in-Some c = let f = (goal.at.returns-in-Some c).After-fits_end in end-fault_answer (model f.args.self) c.in-Some.fault (sym (fitted f) ∙ c.in-Some.is)
+
+pub returns : goal.returns
+unfolding sealed_nodes
+returns c = let f = (goal.at.returns c).After-fits_end in
+    end_answer (model f.args.self) (sym (fitted f) ∙ c.in_default.is) c.requires.known ∙ ap done (ap sealed_nodes (sym (c.in_default-give_back.ensures)) ∙ sym c.in_default-seal_root.ensures)

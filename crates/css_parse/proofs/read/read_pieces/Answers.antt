@@ -1,0 +1,60 @@
+use Rattle.std.proofs.Common.{◌≡◌, ◌<◌, ◌≤◌, Ok, length, ◌∷◌, ap, ◌∙◌, sym, subst, arith}
+use Rattle.std.specs.Str.{chars}
+use Rattle.css_text.specs.Ahead.{begins_bom}
+use Rattle.css_tree.specs.Pieces.{end_of}
+use Rattle.css_parse.specs.Machine.{start, answer, faulty}
+use Rattle.css_parse.specs.Model.{model, IsSmall, Advances}
+use Rattle.css_parse.proofs.Ascii.{text-length}
+use Rattle.css_parse.proofs.Loop.{Reading, at_begin, Taken, taken, ended, Broken, broken, read_end, read_stop}
+use Rattle.css_parse.proofs.read.read_pieces.Goals as goal
+use Rattle.css_parse.proofs.read.read_pieces.Goals.{In-Ok-Some, In-Err-next}
+
+next : (c : In-Ok-Some) → Taken (chars c.args.src.now) c.args.src.now c.pieces.lexer (model c.pieces.parser) c.in-Ok-Some.piece
+next c = taken (chars c.args.src.now) c.args.src.now c.pieces.lexer (model c.pieces.parser) c.in-Ok-Some.piece c.utf8.src c.pieces.invariant (sym c.next.ensures.answer ∙ (c.in-Ok-Some.is ∙ ap Ok c.in-Ok-Some.field-0-is))
+
+fault : (c : In-Err-next) → Broken (chars c.args.src.now) c.args.src.now c.in-Err-next.fault
+fault c = broken (chars c.args.src.now) c.args.src.now c.pieces.lexer (model c.pieces.parser) c.in-Err-next.fault c.pieces.invariant (sym c.next.ensures.answer ∙ c.in-Err-next.is)
+
+pub pieces-init : goal.pieces-init
+pieces-init c =
+    at_begin c.args.src.now c.over-lexer.result (model c.in-Ok.parser) c.utf8.src c.over-lexer.ensures
+    (c.in-Ok.ensures ∙ (ap (λ z. start z (length c.args.src.now)) c.requires.bom ∙ ap (start (begins_bom (chars c.args.src.now))) (text-length c.args.src.now c.utf8.src)))
+
+pub piece_in-requires : goal.piece_in-requires
+piece_in-requires c = let t = next (goal.at.piece_in-requires c).In-Ok-Some in
+    record { some = t.some; start = t.low; end = t.high; short = c.requires.short; kind = t.kind; formed = t.formed }
+
+pub step-requires : goal.step-requires
+step-requires c = let t = next (goal.at.step-requires c).In-Ok-Some in
+    record {
+      ready = t.ready;
+      small = subst (λ z. IsSmall (model c.pieces.parser) z.at) (sym c.piece_in.ensures) t.small;
+      longer = subst (λ z. z.at < end_of z) (sym c.piece_in.ensures) t.longer;
+      within = subst (λ z. z.at ≤ 67108864) (sym c.piece_in.ensures) (let k = t.within in omega (arith, k, c.requires.short));
+    }
+
+pub lexical-requires : goal.lexical-requires
+lexical-requires c = let k = (fault (goal.at.lexical-requires c).In-Err-next).within in omega (arith, k, c.requires.short)
+
+pub returns-in-Ok-None : goal.returns-in-Ok-None
+returns-in-Ok-None c =
+    read_end c.finish.result (chars c.args.src.now) (model c.pieces.parser)
+    (ended (chars c.args.src.now) c.args.src.now c.pieces.lexer (model c.pieces.parser) c.pieces.invariant (sym c.next.ensures.answer ∙ (c.in-Ok-None.is ∙ ap Ok c.in-Ok-None.field-0-is))) c.finish.ensures
+
+pub returns-in-Err-next : goal.returns-in-Err-next
+returns-in-Err-next c = (fault (goal.at.returns-in-Err-next c).In-Err-next).answers ∙ ap faulty (sym c.lexical.ensures)
+
+pub returns-in-Err-step : goal.returns-in-Err-step
+returns-in-Err-step c =
+    let t = next (goal.at.returns-in-Err-step c).In-Ok-Some in
+    let m = model c.pieces.parser in
+    read_stop c.in-Err-step.stop (chars c.args.src.now) m c.piece_in.result
+    (λ f h. t.stop f (λ ps lex. subst (λ z. answer m (z ∷ ps) lex ≡ faulty f) c.piece_in.ensures (h ps lex))) c.in-Err-step.ensures.stops
+
+pub pieces-preserved : goal.pieces-preserved
+pieces-preserved c =
+    let t = next (goal.at.pieces-preserved c).In-Ok-Some in
+    let m = model c.pieces.parser in
+    let n = model c.step.new.self in
+    subst (λ z. Reading (chars c.args.src.now) c.args.src.now z n) (sym c.next.ensures.rest)
+    (t.on n c.in-Ok-step.ensures.ready (subst (λ z. IsSmall n (end_of z)) c.piece_in.ensures c.in-Ok-step.ensures.small) (subst (λ z. Advances m z n) c.piece_in.ensures c.in-Ok-step.ensures.goes_on))

@@ -1,0 +1,11 @@
+pub mod Shapes
+pub mod Head
+pub mod Steps
+pub mod Marks
+pub mod Gaps
+pub mod Values
+pub mod Machine
+pub mod Model
+pub mod Lexical
+pub mod Reading
+pub mod Answer

@@ -1,0 +1,40 @@
+-- How the parser stands to its machine.
+use Rattle.std.specs.Prelude.{◌≡◌, ◌+◌, ◌≤◌, ℕ, List, [], ◌∷◌, reverse, length, Option, None, Result, Ok, Err, Vec}
+use Rattle.std.proofs.Common.{Global}
+use Rattle.css_text.specs.declared.stop.Stop.{Stop}
+use Rattle.css_text.specs.declared.stop.Stop.TheVariants as E
+use Rattle.node_store.specs.declared.node_list.NodeAt.{NodeAt}
+use Rattle.css_tree.specs.Pieces.{Piece}
+use Rattle.css_tree.specs.Fault.{Fault}
+use Rattle.css_parse.specs.declared.parser.Parser.{Parser}
+use Rattle.css_parse.specs.Machine.{Machine, answer, faulty, done}
+
+abbrev pub model : Parser → Machine
+model p = record {
+  nodes = p.nodes.items;
+  number = p.number;
+  semicolon = p.semicolon;
+  frames = reverse p.frames.items;
+  gap = p.gap;
+  run = p.run;
+  awaited = reverse p.awaited.items;
+}
+
+-- there are no more nodes and pieces in progress than bytes, besides the root
+abbrev pub IsSmall : Machine → ℕ → Type 0
+IsSmall s at = length s.nodes + length s.run ≤ 1 + at
+
+-- the first state with this piece before the others comes to what the second comes to with those
+abbrev pub Advances : Machine → Piece → Machine → Type 0
+Advances s p u = (ps : List Piece) (lex : Option Fault) → answer s (p ∷ ps) lex ≡ answer u ps lex
+
+-- the fault is what this state and piece come to
+abbrev pub IsStop : Stop Fault → Machine → Piece → Type 0
+IsStop (E.Fault f) s p = (ps : List Piece) (lex : Option Fault) → answer s (p ∷ ps) lex ≡ faulty f
+IsStop (E.Memory e) s p = Unit {0}
+
+-- what a state comes to with no further pieces
+abbrev pub IsEnd : Result (Vec NodeAt Global) (Stop Fault) → Machine → Type 0
+IsEnd (Ok v) s = answer s [] None ≡ done v.items
+IsEnd (Err (E.Fault f)) s = answer s [] None ≡ faulty f
+IsEnd (Err (E.Memory e)) s = Unit {0}

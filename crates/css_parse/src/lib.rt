@@ -1,0 +1,18 @@
+// Reading: from a text to the nodes of its style sheet, or to its first fault.
+#![tactic(auto)]
+
+mod fields;
+mod found;
+mod gap;
+mod mark;
+mod nodes;
+pub mod parse;
+mod parser;
+mod piece;
+mod read;
+mod run;
+mod spaces;
+#[cfg(test)]
+mod tests;
+mod texts;
+mod turn;

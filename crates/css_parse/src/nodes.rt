@@ -1,0 +1,131 @@
+// The nodes of the parser's list, and their ends.
+ghost use Rattle.std.specs.Prelude.{◌≡◌, ◌<◌, IfOk, length};
+ghost use Rattle.std.specs.Str.{chars};
+ghost use Rattle.css_tree.specs.Pieces.{shape, last_end, Shape as S};
+ghost use Rattle.css_tree.specs.Fields.{first_at};
+ghost use Rattle.css_tree.proofs.TreeOf.{block_text as block_text_of};
+ghost use Rattle.css_parse.specs.Gaps.{gap_of};
+ghost use Rattle.css_parse.specs.Machine.{comment_node, leaf_node, open_node, open_end, with_block};
+
+use crate::fields;
+use crate::piece::{Piece, Shape};
+use css_text::lexer::Span;
+use css_tree::node::{Block, NodeText};
+use node_store::node_list::NodeAt;
+use std::alloc::{AllocError, Global};
+
+/// A container's end before it is known.
+pub fn open_end() -> Block
+    ensures { result ≡ open_end }
+{
+    Block {
+        semicolon: false,
+        after: None,
+    }
+}
+
+/// The byte behind pieces, of which the one before them ends at `end`.
+fn last_end(end: u32, rest: &[Piece]) -> u32
+    ensures { result ≡ last_end end rest.now }
+{
+    let mut last = end;
+    for piece in rest {
+        last = piece.end();
+    }
+    last
+}
+
+/// Where the pieces begin, or else that one.
+fn first_start(pieces: &[Piece], piece: &Piece) -> u32
+    ensures { result ≡ first_at pieces.now piece.now }
+{
+    match pieces {
+        [] => piece.start(),
+        [first, ..] => first.start(),
+    }
+}
+
+fn span(start: u32, end: u32) -> Span
+    ensures { result ≡ record { start = start; end = end } }
+{
+    Span {
+        start: start as usize,
+        end: end as usize,
+    }
+}
+
+pub fn comment_node(
+    alloc: Global,
+    parent: u32,
+    gap: &str,
+    piece: &Piece,
+) -> Result<NodeAt, AllocError>
+    requires { shape piece.now ≡ S.comment }
+    ensures { IfOk result (λ n. n ≡ comment_node parent (chars gap.now) piece.now) }
+{
+    let text = fields::comment(alloc, gap, piece)?;
+    let span = span(piece.start(), piece.end());
+    Ok(NodeAt { parent, text, span })
+}
+
+/// A declaration, or an at-rule without a block.
+pub fn leaf_node(alloc: Global, parent: u32, gap: &str, run: &[Piece]) -> Result<NodeAt, AllocError>
+    requires { 0 < length run.now }
+    ensures { IfOk result (λ n. n ≡ leaf_node parent (chars gap.now) run.now) }
+{
+    let word = &run[0];
+    let rest = &run[1..];
+    let end = last_end(word.end(), rest);
+    match word.shape() {
+        Shape::AtName => {
+            let text = fields::at_rule(alloc, gap, word, rest, None)?;
+            let span = span(word.start(), end);
+            Ok(NodeAt { parent, text, span })
+        }
+        _ => {
+            let text = fields::declaration(alloc, gap, word, rest)?;
+            let span = span(word.start() + word.hack_len() as u32, end);
+            Ok(NodeAt { parent, text, span })
+        }
+    }
+}
+
+/// A rule, or an at-rule with a block, before its end is known.
+pub fn open_node(
+    alloc: Global,
+    parent: u32,
+    gap: &str,
+    run: &[Piece],
+    opening: &Piece,
+) -> Result<NodeAt, AllocError>
+    ensures { IfOk result (λ n. n ≡ open_node parent (chars gap.now) run.now opening.now) }
+{
+    let text = block_text(alloc, gap, run)?;
+    let span = span(first_start(run, opening), opening.end());
+    Ok(NodeAt { parent, text, span })
+}
+
+fn block_text(alloc: Global, gap: &str, run: &[Piece]) -> Result<NodeText, AllocError>
+    ensures { IfOk result (λ t. t ≡ block_text_of (gap_of (chars gap.now)) run.now open_end) }
+{
+    match run {
+        [] => fields::rule(alloc, gap, run, open_end()),
+        [word, rest @ ..] => match word.shape() {
+            Shape::AtName => fields::at_rule(alloc, gap, word, rest, Some(open_end())),
+            _ => fields::rule(alloc, gap, run, open_end()),
+        },
+    }
+}
+
+/// Writes the end of a container.
+pub fn set_block(text: &mut NodeText, block: Block)
+    ensures { text.new ≡ with_block text.old block }
+{
+    match text {
+        NodeText::Root { block: b, .. } => *b = block,
+        NodeText::AtRule { block: b, .. } => *b = Some(block),
+        NodeText::Rule { block: b, .. } => *b = block,
+        NodeText::Declaration { .. } => {}
+        NodeText::Comment { .. } => {}
+    }
+}

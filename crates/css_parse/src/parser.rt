@@ -1,0 +1,306 @@
+// The parser between two pieces.
+ghost use Rattle.std.specs.Prelude.{◌≡◌, ◌+◌, ◌<◌, ◌≤◌, ◌++◌, ◌∷◌, [], length, IfOk, IfErr};
+ghost use Rattle.css_tree.specs.Pieces.{Piece as Seen, shape, end_of, is_blank, join, Shape as S};
+ghost use Rattle.css_tree.specs.Classes.{Each};
+ghost use Rattle.css_tree.specs.Turn.{Turn, within, gap, alone, ends, closes, opens};
+ghost use Rattle.css_tree.proofs.Reader.{settle};
+ghost use Rattle.css_parse.specs.Gaps.{gap_of};
+ghost use Rattle.css_parse.specs.Steps.{IsStep, below};
+ghost use Rattle.css_parse.specs.Machine.{flat, alter, seal_root, next, start, given, sealed, left, IsReady};
+ghost use Rattle.css_parse.specs.Model.{model, IsSmall, Advances, IsStop, IsEnd};
+ghost use Rattle.css_parse.specs.declared.turn.Step.TheVariants as St;
+
+use crate::found::Found;
+use crate::gap::Gap;
+use crate::nodes::{comment_node, leaf_node, open_end, open_node, set_block};
+use crate::piece::{Piece, Shape};
+use crate::run::Run;
+use crate::texts::solid_len;
+use crate::turn::{Frame, Step, fits, fits_end, turn};
+use css_text::lexer::Span;
+use css_text::stop::Stop;
+use css_text::txt::Txt;
+use css_tree::node::{Block, NodeText};
+use node_store::node_list::NodeAt;
+use std::alloc::{AllocError, Global};
+
+/// The nodes so far; the open container's number, and whether a `;` stands behind its last declaration or blockless
+/// at-rule; the containers around it; the text since the last node; the pieces of the statement in progress; and the
+/// opening pieces of the brackets that are awaited.
+#[derive(Drop)]
+pub struct Parser<'t> {
+    pub alloc: Global,
+    pub nodes: Vec<NodeAt>,
+    pub number: u32,
+    pub semicolon: bool,
+    pub frames: Vec<Frame<'t>>,
+    pub gap: Gap,
+    pub run: Run<'t>,
+    pub awaited: Vec<Piece<'t>>,
+}
+
+/// Blanks that are given back to the container: its comments become nodes.
+#[tactic(auto, using(std::proofs::lemmas::Grind::common_steps, crate::proofs::Giving::given_steps), unfolding(crate::proofs::Giving::given_nodes, crate::proofs::Giving::given_behind))]
+fn settle(
+    alloc: Global,
+    nodes: &mut Vec<NodeAt>,
+    number: u32,
+    gap: &mut Gap,
+    blanks: &[Piece],
+) -> Result<(), AllocError>
+    requires { Each is_blank blanks.now }
+    ensures nodes { IfOk result (λ _. nodes.new.items ≡ nodes.old.items ++ flat number (length nodes.old.items) (settle (gap_of (gap.old)) blanks.now).nodes) }
+    ensures gap { IfOk result (λ _. gap.new ≡ join (settle (gap_of (gap.old)) blanks.now).behind) }
+{
+    for piece in blanks {
+        match piece.shape() {
+            Shape::Space => gap.push(piece.text())?,
+            _ => {
+                let node = comment_node(alloc, number, gap.as_str(), piece)?;
+                nodes.push(node)?;
+                gap.clear();
+            }
+        }
+    }
+    Ok(())
+}
+
+impl<'t> Parser<'t> {
+    /// Before the first piece of a text with so many bytes.
+    pub fn new(alloc: Global, bom: bool, size: usize) -> Result<Parser<'t>, AllocError>
+        ensures { IfOk result (λ p. model p ≡ start bom size) }
+    {
+        let mut nodes = Vec::new(alloc);
+        nodes.push(NodeAt {
+            parent: 0,
+            text: NodeText::Root {
+                bom,
+                block: open_end(),
+            },
+            span: Span {
+                start: 0,
+                end: size,
+            },
+        })?;
+        Ok(Parser {
+            alloc,
+            nodes,
+            number: 0,
+            semicolon: false,
+            frames: Vec::new(alloc),
+            gap: Gap::new(alloc),
+            run: Run::new(alloc),
+            awaited: Vec::new(alloc),
+        })
+    }
+
+    fn add_gap(&mut self, piece: &Piece<'t>) -> Result<(), AllocError>
+        ensures { IfOk result (λ _. model self.new ≡ next (model self.old) piece.now gap) }
+    {
+        self.gap.push(piece.text())?;
+        Ok(())
+    }
+
+    fn add_comment(&mut self, piece: &Piece<'t>) -> Result<(), AllocError>
+        requires { shape piece.now ≡ S.comment }
+        ensures { IfOk result (λ _. model self.new ≡ next (model self.old) piece.now alone) }
+    {
+        let node = comment_node(self.alloc, self.number, self.gap.as_str(), piece)?;
+        self.nodes.push(node)?;
+        self.gap.clear();
+        Ok(())
+    }
+
+    fn add_leaf(&mut self, piece: &Piece<'t>) -> Result<(), AllocError>
+        requires { 0 < length self.old.run }
+        ensures { IfOk result (λ _. model self.new ≡ next (model self.old) piece.now ends) }
+    {
+        let run = self.run.as_slice();
+        let node = leaf_node(self.alloc, self.number, self.gap.as_str(), run)?;
+        self.nodes.push(node)?;
+        self.semicolon = true;
+        self.gap.clear();
+        self.run.clear();
+        Ok(())
+    }
+
+    fn open_block(&mut self, piece: Piece<'t>) -> Result<(), AllocError>
+        requires { length self.old.nodes.items < 4294967296 }
+        ensures { IfOk result (λ _. model self.new ≡ next (model self.old) piece.entry opens) }
+    {
+        let number = self.nodes.len() as u32;
+        let run = self.run.as_slice();
+        let node = open_node(self.alloc, self.number, self.gap.as_str(), run, &piece)?;
+        self.nodes.push(node)?;
+        self.frames.push(Frame {
+            number: self.number,
+            opening: piece,
+        })?;
+        self.number = number;
+        self.semicolon = false;
+        self.gap.clear();
+        self.run.clear();
+        Ok(())
+    }
+
+    fn await_closer(&mut self, piece: Piece<'t>) -> Result<(), AllocError>
+        ensures { IfOk result (λ _. model self.new ≡ next (model self.old) piece.entry (within (piece.entry ∷ (model self.old).awaited))) }
+    {
+        self.awaited.push(piece.again())?;
+        self.run.push(piece)?;
+        Ok(())
+    }
+
+    fn close_bracket(&mut self, piece: Piece<'t>) -> Result<(), AllocError>
+        ensures { IfOk result (λ _. model self.new ≡ next (model self.old) piece.entry (within (below (model self.old).awaited))) }
+    {
+        self.awaited.pop();
+        self.run.push(piece)?;
+        Ok(())
+    }
+
+    fn add_piece(&mut self, piece: Piece<'t>) -> Result<(), AllocError>
+        ensures { IfOk result (λ _. model self.new ≡ next (model self.old) piece.entry (within (model self.old).awaited)) }
+    {
+        self.run.push(piece)?;
+        Ok(())
+    }
+
+    /// At a container's end: the statement in progress becomes a node, and its trailing blanks are given back.
+    fn give_back(&mut self) -> Result<(), AllocError>
+        requires { IsReady (model self.old) }
+        ensures { IfOk result (λ _. model self.new ≡ given (model self.old)) }
+    {
+        if self.run.as_slice().is_empty() {
+            return Ok(());
+        }
+        let n = solid_len(self.run.as_slice());
+        let run = &self.run.as_slice()[..n];
+        let node = leaf_node(self.alloc, self.number, self.gap.as_str(), run)?;
+        self.nodes.push(node)?;
+        self.semicolon = false;
+        self.gap.clear();
+        let blanks = &self.run.as_slice()[n..];
+        settle(
+            self.alloc,
+            &mut self.nodes,
+            self.number,
+            &mut self.gap,
+            blanks,
+        )?;
+        self.run.clear();
+        Ok(())
+    }
+
+    /// The open container's end.
+    fn block(&self) -> Result<Block, AllocError>
+        ensures { IfOk result (λ b. b ≡ record { semicolon = self.now.semicolon; after = Some (self.now.gap) }) }
+    {
+        let after = Txt::new(self.alloc, self.gap.as_str())?;
+        Ok(Block {
+            semicolon: self.semicolon,
+            after: Some(after),
+        })
+    }
+
+    fn seal(&mut self, piece: &Piece<'t>) -> Result<(), AllocError>
+        requires { self.old.number < length self.old.nodes.items }
+        ensures { IfOk result (λ _. model self.new ≡ sealed (model self.old) piece.now) }
+    {
+        let block = self.block()?;
+        let node = &mut self.nodes[self.number as usize];
+        set_block(&mut node.text, block);
+        node.span.end = piece.end() as usize;
+        Ok(())
+    }
+
+    fn seal_root(&mut self) -> Result<(), AllocError>
+        requires { self.old.number < length self.old.nodes.items }
+        ensures { IfOk result (λ _. self.new.nodes.items ≡ alter self.old.number (seal_root self.old.semicolon (self.old.gap)) self.old.nodes.items) }
+    {
+        let block = self.block()?;
+        set_block(&mut self.nodes[self.number as usize].text, block);
+        Ok(())
+    }
+
+    fn leave(&mut self)
+        ensures { model self.new ≡ left (model self.old) }
+    {
+        match self.frames.pop() {
+            Some(frame) => self.number = frame.number,
+            None => self.number = 0,
+        }
+        self.semicolon = false;
+        self.gap.clear();
+        self.run.clear();
+    }
+
+    fn close_block(&mut self, piece: &Piece<'t>) -> Result<(), AllocError>
+        requires { IsReady (model self.old) }
+        ensures { IfOk result (λ _. model self.new ≡ next (model self.old) piece.now closes) }
+    {
+        self.give_back()?;
+        self.seal(piece)?;
+        self.leave();
+        Ok(())
+    }
+}
+
+impl<'t> Parser<'t> {
+    fn take(&mut self, piece: Piece<'t>, step: Step) -> Result<(), AllocError>
+        requires ready { IsReady (model self.old) }
+        requires small { length self.old.nodes.items < 4294967296 }
+        requires begun { step ≡ St.End → 0 < length self.old.run }
+        requires comment { step ≡ St.Comment → shape piece ≡ S.comment }
+        ensures { IfOk result (λ _. (t : Turn) → IsStep step t (model self.old).awaited piece.entry → model self.new ≡ next (model self.old) piece.entry t) }
+    {
+        match step {
+            Step::Await => self.await_closer(piece),
+            Step::Answer => self.close_bracket(piece),
+            Step::Keep => self.add_piece(piece),
+            Step::Skip => self.add_gap(&piece),
+            Step::Comment => self.add_comment(&piece),
+            Step::End => self.add_leaf(&piece),
+            Step::Close => self.close_block(&piece),
+            Step::Open => self.open_block(piece),
+        }
+    }
+
+    /// Reads one more piece. After an error the parser may not be used again.
+    pub fn step(&mut self, piece: Piece<'t>) -> Result<(), Stop<Found>>
+        requires ready { IsReady (model self.old) }
+        requires small { IsSmall (model self.old) piece.at }
+        requires longer { piece.at < end_of piece }
+        requires within { piece.at ≤ 67108864 }
+        ensures ready { IfOk result (λ _. IsReady (model self.new)) }
+        ensures small { IfOk result (λ _. IsSmall (model self.new) (end_of piece.entry)) }
+        ensures goes_on { IfOk result (λ _. Advances (model self.old) piece.entry (model self.new)) }
+        ensures stops { IfErr result (λ e. IsStop e (model self.old) piece.entry) }
+    {
+        let step = turn(&self.run, &self.awaited, piece.shape());
+        if let Some(fault) = fits(self.frames.len(), &self.run, &piece, step) {
+            return Err(Stop::Fault(fault));
+        }
+        match self.take(piece, step) {
+            Ok(()) => Ok(()),
+            Err(e) => Err(Stop::Memory(e)),
+        }
+    }
+
+    /// The nodes of the text whose pieces were read.
+    pub fn finish(mut self) -> Result<Vec<NodeAt>, Stop<Found>>
+        requires { IsReady (model self) }
+        ensures { IsEnd result (model self.entry) }
+    {
+        if let Some(fault) = fits_end(&self.awaited, &self.run, &self.frames) {
+            return Err(Stop::Fault(fault));
+        }
+        if let Err(e) = self.give_back() {
+            return Err(Stop::Memory(e));
+        }
+        if let Err(e) = self.seal_root() {
+            return Err(Stop::Memory(e));
+        }
+        Ok(self.nodes)
+    }
+}

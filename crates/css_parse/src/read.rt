@@ -1,0 +1,75 @@
+// The loop over the pieces of a text.
+ghost use Rattle.std.specs.Prelude.{◌≡◌, ◌<◌, ◌≤◌, length, slice_range};
+ghost use Rattle.std.specs.Str.{chars, IsCharBoundary};
+ghost use Rattle.css_text.specs.PieceKinds.{IsOfKind};
+ghost use Rattle.css_tree.specs.Pieces.{shape_of};
+ghost use Rattle.css_tree.proofs.Formed.{FormedBy};
+ghost use Rattle.css_text.specs.Ahead.{begins_bom};
+ghost use Rattle.css_parse.specs.Answer.{IsNodes};
+ghost use Rattle.css_parse.specs.Reading.{IsRead};
+ghost use Rattle.css_parse.specs.Lexical.{found_of};
+
+use crate::found::Found;
+use crate::parser::Parser;
+use crate::piece::Piece;
+use css_text::lexer::{self, LexFault, Lexer};
+use css_text::stop::Stop;
+use css_text::text::Text;
+use css_tree::fault::SyntaxKind;
+use node_store::node_list::NodeAt;
+use std::alloc::Global;
+
+/// A piece of the lexer with its text.
+fn piece_in<'t>(src: &'t str, piece: lexer::Piece) -> Piece<'t>
+    requires some { piece.span.start < piece.span.end }
+    requires start { IsCharBoundary src.now piece.span.start }
+    requires end { IsCharBoundary src.now piece.span.end }
+    requires short { length src.now ≤ 67108864 }
+    requires kind { IsOfKind piece.kind (chars (slice_range src.now piece.span.start piece.span.end)) }
+    requires formed { FormedBy (shape_of piece.kind (chars (slice_range src.now piece.span.start piece.span.end))) (chars (slice_range src.now piece.span.start piece.span.end)) }
+    ensures { result ≡ record { kind = piece.kind; at = piece.span.start; text = chars (slice_range src.now piece.span.start piece.span.end) } }
+{
+    let text = &src[piece.span.start..piece.span.end];
+    Piece::new(piece.kind, piece.span.start as u32, text)
+}
+
+fn lexical(fault: LexFault) -> Found
+    requires { (found_of fault).at ≤ 67108864 }
+    ensures { result ≡ found_of fault }
+{
+    match fault {
+        LexFault::UnclosedString { at } => Found::new(SyntaxKind::UnclosedString, at as u32),
+        LexFault::UnclosedComment { at } => Found::new(SyntaxKind::UnclosedComment, at as u32),
+        LexFault::UnclosedUrl { at } => Found::new(SyntaxKind::UnclosedUrl, at as u32),
+    }
+}
+
+/// The nodes of a text, which begins with a byte order mark or doesn't, or its first fault.
+fn read_pieces(alloc: Global, src: &str, bom: bool) -> Result<Vec<NodeAt>, Stop<Found>>
+    requires short { length src.now ≤ 67108864 }
+    requires bom { bom ≡ begins_bom (chars src.now) }
+    ensures { IsRead result (chars src.now) }
+{
+    let mut parser = match Parser::new(alloc, bom, src.len()) {
+        Ok(parser) => parser,
+        Err(e) => return Err(Stop::Memory(e)),
+    };
+    let mut lexer = Lexer::over(src);
+    'pieces: loop {
+        match lexer.next() {
+            Ok(Some(piece)) => match parser.step(piece_in(src, piece)) {
+                Ok(()) => {}
+                Err(stop) => return Err(stop),
+            },
+            Ok(None) => return parser.finish(),
+            Err(fault) => return Err(Stop::Fault(lexical(fault))),
+        }
+    }
+}
+
+/// The nodes of a text in document order, or its first fault.
+pub fn read(alloc: Global, text: &Text) -> Result<Vec<NodeAt>, Stop<Found>>
+    ensures { IsNodes result text.now }
+{
+    read_pieces(alloc, text.as_str(), text.has_bom())
+}

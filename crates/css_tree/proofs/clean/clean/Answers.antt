@@ -1,0 +1,7 @@
+use Rattle.std.proofs.Common.{◌∙◌, ap}
+use Rattle.std.specs.Str.{chars}
+use Rattle.css_tree.proofs.Cleaning.{clean-chars}
+use Rattle.css_tree.proofs.clean.clean.Goals as goal
+
+pub returns : goal.returns
+returns c = c.from_string.ensures ∙ (ap chars c.in_ok-text.ensures ∙ clean-chars c.args.src.now c.utf8.src)

@@ -1,0 +1,16 @@
+pub mod Tree
+pub mod Parts
+pub mod Print
+pub mod Numbered
+pub mod Clean
+pub mod Pieces
+pub mod Turn
+pub mod Fault
+pub mod Classes
+pub mod Mark
+pub mod Nodes
+pub mod Fields
+pub mod Reads
+pub mod Laws
+pub mod Whole
+pub mod Examples

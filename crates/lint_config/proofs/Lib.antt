@@ -1,0 +1,3 @@
+pub mod Backtrack
+pub mod Slashes
+pub mod Globs

@@ -1,0 +1,13 @@
+// The linter's configuration: the names of the rules with what each takes, the settings of a file, and
+// what rules find. The names, the options and the meaning of the rules are near to those of stylelint.
+#![tactic(auto)]
+
+mod characters;
+pub mod found;
+pub mod laws;
+pub mod paths;
+pub mod rule;
+pub mod settings;
+pub mod table;
+#[cfg(test)]
+mod tests;

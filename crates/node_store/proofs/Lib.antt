@@ -1,0 +1,17 @@
+pub mod Climb
+pub mod Fields
+pub mod Edits
+pub mod Levels
+pub mod Short
+pub mod Segs
+pub mod Layers
+pub mod Join
+pub mod Holds
+pub mod Pushed
+pub mod Siblings
+pub mod Last
+pub mod Built
+pub mod Whole
+pub mod Behind
+pub mod Pushes
+pub mod FreshTree

@@ -1,0 +1,11 @@
+pub mod Nodes
+pub mod Sound
+pub mod NumberTrees
+pub mod Forest
+pub mod NodeList
+pub mod Appended
+pub mod Segments
+pub mod Shown
+pub mod Joins
+pub mod Examples
+pub mod Fresh

@@ -1,0 +1,78 @@
+// What the log of a tree holds: the walk's items, and the edits.
+use crate::id::NodeId;
+use css_text::lexer::Span;
+use css_text::txt::Txt;
+use css_tree::node::{Field, NodeText, Raw};
+
+/// The events of PostCSS 8 at which a visitor is called.
+#[derive(Clone, Copy, PartialEq, Eq, Debug)]
+pub enum Event {
+    Once,
+    Root,
+    RootExit,
+    AtRule,
+    AtRuleExit,
+    Rule,
+    RuleExit,
+    Declaration,
+    DeclarationExit,
+    Comment,
+    CommentExit,
+    OnceExit,
+}
+
+/// An event at a node.
+#[derive(Clone, Copy, PartialEq, Eq, Debug)]
+pub struct Moment {
+    pub event: Event,
+    pub node: NodeId,
+}
+
+/// One change of the tree.
+#[derive(Drop)]
+pub enum Edit {
+    Set {
+        node: NodeId,
+        field: Field,
+        text: Txt,
+    },
+    SetRaw {
+        node: NodeId,
+        raw: Raw,
+        text: Txt,
+    },
+    New {
+        node: NodeId,
+        text: NodeText,
+        span: Option<Span>,
+    },
+    Insert {
+        node: NodeId,
+        parent: NodeId,
+        at: u32,
+    },
+    Remove {
+        node: NodeId,
+    },
+}
+
+/// One entry of the log.
+#[derive(Drop)]
+pub enum Item {
+    /// A pass over the tree begins.
+    Pass,
+    Enter(NodeId),
+    /// The hook of that place in the plugin of that place on the shelf is called.
+    Call {
+        plugin: u32,
+        hook: u32,
+        moment: Moment,
+    },
+    Edit(Edit),
+    /// The call came back, with a text where it failed.
+    Back {
+        fault: Option<Txt>,
+    },
+    Leave(NodeId),
+    End,
+}

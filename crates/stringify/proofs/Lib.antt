@@ -1,0 +1,5 @@
+pub mod Puts
+pub mod Children
+pub mod Comments
+pub mod Turns
+pub mod Pieces

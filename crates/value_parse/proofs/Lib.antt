@@ -1,0 +1,9 @@
+pub mod Numbers
+pub mod NumberBytes
+pub mod Steps
+pub mod Found
+pub mod PartBytes
+pub mod Bounds
+pub mod Rows
+pub mod Trees
+pub mod Exists

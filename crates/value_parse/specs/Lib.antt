@@ -1,0 +1,4 @@
+pub mod Tree
+pub mod Found
+pub mod Row
+pub mod Examples
