@@ -1,5 +1,5 @@
 -- Where the `{` of an empty block stands.
-use Rattle.std.proofs.Common.{◌≡◌, ℕ, ◌+◌, ◌<◌, ◌≤◌, ◌^◌, List, [], ◌∷◌, ◌++◌, length, Bool, true, false, Some, None, refl, sym, ap, subst, ◌∙◌, append_assoc, arith, drop, map}
+use Rattle.std.proofs.Common.{◌≡◌, ℕ, ◌+◌, ◌≤◌, List, [], ◌∷◌, ◌++◌, length, true, Some, None, sym, ap, subst, ◌∙◌, append_assoc, arith, drop}
 use Rattle.std.specs.Prelude.{Option, encode_utf8_all}
 use Rattle.std.specs.Str.{IsCharBoundary}
 use Rattle.std.specs.Char.{len_utf8}
@@ -13,7 +13,6 @@ use Rattle.css_text.proofs.Transport.{length-bytes}
 use Rattle.css_tree.specs.declared.node.NodeText.{NodeText}
 use Rattle.css_tree.specs.declared.node.NodeText.TheVariants as N
 use Rattle.css_tree.specs.Tree.{Trees, none, node}
-use Rattle.css_tree.specs.Print.{opening}
 use Rattle.css_tree.specs.Laws.{start_of}
 use Rattle.css_job.specs.Warnings.{is_empty_block, before_brace}
 use Rattle.css_job.specs.Laws.{BraceFollows}

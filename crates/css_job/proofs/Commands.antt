@@ -1,9 +1,8 @@
 -- What the commands make of their parts.
-use Rattle.std.proofs.Common.{◌≡◌, ℕ, ◌<◌, ◌≤◌, ◌^◌, List, [], ◌∷◌, length, map, Bool, true, false, cond, None, Ok, Err, Result, refl, sym, ap, subst, ◌∙◌, arith}
+use Rattle.std.proofs.Common.{◌≡◌, ℕ, ◌<◌, ◌≤◌, ◌^◌, List, [], ◌∷◌, length, Bool, true, false, cond, None, Ok, Err, Result, refl, sym, ap, subst, ◌∙◌, arith}
 use Rattle.std.specs.Prelude.{IfOk, IfErr, nat_lt, encode_utf8_all}
 use Rattle.std.specs.Str.{chars, IsUtf8, is_utf8, IsValidUpTo}
 use Rattle.std.specs.Str.Lossy.{utf8_valid_len}
-use Rattle.std.proofs.lemmas.Bool.{false≢true}
 use Rattle.std.proofs.lemmas.Bool.Decides.{nat_tests}
 use Rattle.std.proofs.lemmas.List.{take_all}
 use Rattle.std.proofs.lemmas.Str.{encodes-chars, is_utf8-from_IsUtf8, IsUtf8-from_is_utf8, utf8_valid_len-IsValidUpTo}
@@ -23,7 +22,7 @@ use Rattle.node_store.specs.Forest.{Forest, IsForest, tree_of}
 use Rattle.node_store.specs.Fresh.{IsFresh}
 use Rattle.node_store.proofs.FreshTree.{fresh_tree}
 use Rattle.css_job.specs.Faults.{input_name, wrong_at}
-use Rattle.css_job.specs.Reading.{Reading, IsReadingOf}
+use Rattle.css_job.specs.Reading.{Reading}
 use Rattle.css_job.specs.Warnings.{Warning}
 use Rattle.css_job.specs.Report.{report}
 use Rattle.css_job.specs.Plan.{Plan, stopped, limit, lint_status, reported, text_plan, input_plan}

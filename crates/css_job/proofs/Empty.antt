@@ -1,11 +1,11 @@
 -- A node without a first child has nothing below it.
-use Rattle.std.proofs.Common.{◌≡◌, ℕ, ◌<◌, List, [], ◌∷◌, length, Bool, true, false, Some, None, refl, sym, ap, ◌∙◌, slice_get}
+use Rattle.std.proofs.Common.{◌≡◌, ℕ, List, false, Some, None, refl, sym, ap, ◌∙◌, slice_get}
 use Rattle.std.specs.Prelude.{Option}
 use Rattle.css_tree.specs.declared.node.NodeText.{NodeText}
 use Rattle.css_tree.specs.declared.node.NodeText.TheVariants as N
 use Rattle.css_text.specs.declared.lexer.Span.{Span}
 use Rattle.css_tree.specs.Tree.{Trees, none, node}
-use Rattle.node_store.specs.Nodes.{Node, text_of, children_of, siblings}
+use Rattle.node_store.specs.Nodes.{Node, children_of, siblings}
 use Rattle.node_store.specs.Sound.{IsSound}
 use Rattle.node_store.specs.NumberTrees.{plain, below, number_trees}
 use Rattle.node_store.proofs.Behind.{first-some, first-none}

@@ -1,5 +1,5 @@
 -- The braces of empty blocks are in the order of the text.
-use Rattle.std.proofs.Common.{◌≡◌, ℕ, ◌+◌, ◌<◌, ◌≤◌, List, [], ◌∷◌, ◌++◌, Bool, true, false, refl, sym, ap, subst, ◌∙◌, arith, map, cond, length}
+use Rattle.std.proofs.Common.{◌≡◌, ℕ, ◌+◌, ◌≤◌, List, [], ◌∷◌, ◌++◌, Bool, true, false, refl, sym, ap, subst, arith, map, cond}
 use Rattle.std.specs.Prelude.{Option}
 use Rattle.css_text.specs.Ahead.{byte_len}
 use Rattle.css_text.specs.declared.lexer.Span.{Span}
@@ -10,7 +10,6 @@ use Rattle.css_tree.specs.Parts.{before_of}
 use Rattle.css_tree.specs.Print.{Container, container_of, before_text, opening, closing, semicolon_after, print_children, starts_children, starts, starts_below}
 use Rattle.css_tree.specs.Laws.{start_of, span_starts}
 use Rattle.css_tree.specs.Whole.{AreWhole}
-use Rattle.css_tree.specs.Reads.{Reads}
 use Rattle.css_tree.proofs.Starts.{starts_at_spans}
 use Rattle.css_tree.proofs.Whole.{whole_nodes}
 use Rattle.css_job.specs.Warnings.{is_empty_block, before_brace, brace_of_empty, empty_blocks}

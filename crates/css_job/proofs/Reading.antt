@@ -1,5 +1,5 @@
 -- The first stage.
-use Rattle.std.proofs.Common.{◌≡◌, ℕ, ◌<◌, List, [], length, Bool, true, false, Some, None, Ok, Err, Result, refl, sym, ap, subst, ◌∙◌, cond, not, arith, length-append}
+use Rattle.std.proofs.Common.{◌≡◌, ℕ, ◌<◌, List, [], length, true, false, Some, None, Ok, Err, Result, refl, sym, ap, subst, ◌∙◌, arith, length-append}
 use Rattle.std.proofs.Common.{true≢false, ◌≤◌}
 use Rattle.std.specs.Prelude.{Option, IfSome, IfOk, is_some}
 use Rattle.std.specs.Io.KnownBytes.{Consumes, IsAtEnd}
@@ -10,8 +10,8 @@ use Rattle.css_job.specs.Words.{command_of, are_taken}
 use Rattle.css_job.specs.declared.words.Command.{Command}
 use Rattle.css_job.specs.Faults.{input_name}
 use Rattle.css_job.specs.Reading.{Reading, IsReadingOf}
-use Rattle.css_job.specs.Plan.{Plan, plan_of, command_plan, input_plan, limit, stopped}
-use Rattle.css_job.specs.Outside.{Fed, IsRead}
+use Rattle.css_job.specs.Plan.{Plan, command_plan, limit, stopped}
+use Rattle.css_job.specs.Outside.{Fed}
 use Rattle.css_job.proofs.Readings.{some_reading}
 use Rattle.css_job.proofs.Commands.{large_plan}
 use Rattle.std.specs.declared.vec.Vec.{Vec}

@@ -6,7 +6,7 @@ use Rattle.std.specs.Str.Lossy.{utf8_valid_len}
 use Rattle.css_job.specs.Words.{command_of}
 use Rattle.css_job.specs.Faults.{input_name}
 use Rattle.css_job.specs.Reading.{Reading}
-use Rattle.css_job.specs.Plan.{Piece, Plan, plan_of, command_plan, text_plan, input_plan, stopped, limit}
+use Rattle.css_job.specs.Plan.{Piece, Plan, plan_of, command_plan, text_plan, stopped, limit}
 use Rattle.css_job.specs.Answer.{begun, same_target}
 use Rattle.css_job.specs.Stages.{IsSound}
 use Rattle.css_job.specs.declared.fault.Fault.{Fault}

@@ -1,5 +1,5 @@
 -- In the text of a reading each node's body stands where its span starts.
-use Rattle.std.proofs.Common.{◌≡◌, ℕ, suc, ◌+◌, ◌<◌, List, [], ◌∷◌, ◌++◌, length, Bool, true, false, Some, None, refl, sym, ap, subst, ◌∙◌, append_assoc, append-nil, arith, map, length-append}
+use Rattle.std.proofs.Common.{◌≡◌, ℕ, ◌+◌, ◌<◌, List, [], ◌∷◌, ◌++◌, length, Bool, true, false, Some, None, refl, sym, ap, ◌∙◌, append_assoc, append-nil, arith, map, length-append}
 use Rattle.std.specs.Prelude.{Option, IsSome}
 use Rattle.std.specs.List.{flat_map}
 use Rattle.std.proofs.lemmas.Bool.{false≢true}
@@ -18,13 +18,13 @@ use Rattle.css_tree.specs.Whole.{AreWhole}
 use Rattle.css_tree.specs.Reads.{Reads}
 use Rattle.css_tree.proofs.Starts.{starts_at_spans}
 use Rattle.css_tree.proofs.Whole.{whole_nodes}
-use Rattle.node_store.specs.Nodes.{Node, text_of, span_of, parent_of, siblings_in, path}
+use Rattle.node_store.specs.Nodes.{Node, text_of, span_of, siblings_in}
 use Rattle.node_store.specs.Sound.{IsSound}
 use Rattle.node_store.specs.NumberTrees.{NumberTrees, no_trees, tree, plain, below, number_trees, tree_at}
 use Rattle.node_store.proofs.Climb.{path-top}
 use Rattle.node_store.proofs.Levels.{number_trees-none}
 use Rattle.css_job.specs.Warnings.{Warning, brace_of_empty, empty_blocks, empty_block_warning}
-use Rattle.css_job.specs.Walk.{Entry, entries, later_on, later, onward, found, Stands, EachStands}
+use Rattle.css_job.specs.Walk.{Entry, entries, later_on, later, onward, found, EachStands}
 
 cons_split : (a x : ℕ) (us xs : List ℕ) → a ∷ us ≡ x ∷ xs → (a ≡ x) × (us ≡ xs)
 cons_split a x us xs e = let h : a ≡ x = cc in let t : us ≡ xs = cc in (h, t)

@@ -1,5 +1,5 @@
 -- The ways in which an answer comes, and the causes.
-use Rattle.std.proofs.Common.{◌≡◌, ℕ, ◌<◌, ◌≤◌, List, [], ◌∷◌, ◌++◌, length, Bool, true, false, Some, None, refl, sym, ap, subst, ◌∙◌, inl, inr, cond, Result, Ok, Err, arith, append-nil, true≢false}
+use Rattle.std.proofs.Common.{◌≡◌, ℕ, ◌<◌, ◌≤◌, List, ◌++◌, length, Bool, true, false, Some, None, refl, sym, ap, subst, ◌∙◌, inl, inr, cond, Result, Ok, Err, arith, append-nil, true≢false}
 use Rattle.std.specs.declared.alloc.AllocError.{AllocError}
 use Rattle.std.specs.Prelude.{Option, ◌⊎◌, ◌==◌, IfSome, IfOk, OnErr, nat_lt, is_some, count_by, encode_utf8_all}
 use Rattle.std.specs.Str.{chars, IsUtf8, is_utf8, IsValidUpTo}
@@ -11,18 +11,17 @@ use Rattle.std.proofs.lemmas.Str.{IsUtf8-from_is_utf8, is_utf8-from_IsUtf8, utf8
 use Rattle.io_edge.specs.Causes.{Rose}
 use Rattle.css_tree.specs.declared.fault.SyntaxFault.{SyntaxFault}
 use Rattle.css_tree.specs.Tree.{Tree}
-use Rattle.css_tree.specs.Reads.{Reads}
 use Rattle.css_tree.specs.Print.{print}
 use Rattle.css_parse.specs.Answer.{IsFaultOf}
 use Rattle.css_job.specs.Words.{command_of, are_taken}
 use Rattle.css_job.specs.Faults.{input_name, name_of, status_of}
 use Rattle.css_job.specs.Reading.{Reading, IsReadingOf, HasNoTree}
-use Rattle.css_job.specs.Warnings.{Warning, warnings, syntax_warning}
+use Rattle.css_job.specs.Warnings.{Warning, warnings}
 use Rattle.css_job.specs.Report.{is_error, report}
-use Rattle.css_job.specs.Plan.{limit, lint_status, stopped, text_plan, command_plan}
+use Rattle.css_job.specs.Plan.{limit, lint_status, text_plan, command_plan}
 use Rattle.css_job.specs.Answer.{Object, input, write_to, Answer, answer, is_input, finish, failed_target}
 use Rattle.css_job.specs.Outside.{Moment, Licensed, Took, Ends, RanOut, Runs}
-use Rattle.css_job.specs.Causes.{UsageCause, ReadCause, WriteCause, Gets, IsTextInput, TooLargeCause, NotUtf8Cause, SyntaxCause, SyntaxErrorCause, StatusCause, Reports, WarnedCause, UnchangedCause, Unfailed, Completes, IsFailedSink}
+use Rattle.css_job.specs.Causes.{UsageCause, ReadCause, WriteCause, IsTextInput, TooLargeCause, NotUtf8Cause, SyntaxCause, SyntaxErrorCause, StatusCause, Reports, WarnedCause, UnchangedCause, Unfailed, Completes, IsFailedSink}
 use Rattle.css_job.specs.declared.fault.Fault.{Fault}
 use Rattle.css_job.specs.declared.fault.Fault.TheVariants.{Usage, ReadFault, WriteFault, TooLarge, NotUtf8, Syntax}
 use Rattle.css_job.specs.declared.run.Ended.{Ended}

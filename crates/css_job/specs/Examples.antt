@@ -4,7 +4,7 @@ use Rattle.css_tree.specs.declared.fault.SyntaxFault.{SyntaxFault}
 use Rattle.css_tree.specs.declared.fault.SyntaxKind.TheVariants as K
 use Rattle.css_tree.specs.declared.node.NodeText.TheVariants as N
 use Rattle.css_tree.specs.Tree.{Tree, none}
-use Rattle.css_tree.specs.Examples.{sheet, at, ending, plain, in_rule, declared}
+use Rattle.css_tree.specs.Examples.{sheet, at, ending, plain, in_rule}
 use Rattle.css_job.specs.Reading.{Reading, IsReadingOf}
 use Rattle.css_job.specs.Answer.{input, write_to, answer}
 use Rattle.css_job.specs.declared.fault.Fault.TheVariants.{Usage, ReadFault, WriteFault, NotUtf8, Syntax}

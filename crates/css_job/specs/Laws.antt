@@ -3,7 +3,7 @@ use Rattle.std.specs.Prelude.{◌≡◌, ◌<◌, ℕ, List, [], ◌∷◌, ◌+
 use Rattle.css_tree.specs.declared.node.NodeText.{NodeText}
 use Rattle.css_tree.specs.Print.{opening}
 use Rattle.css_tree.specs.Reads.{Reads}
-use Rattle.css_tree.specs.Tree.{Trees, none, Tree}
+use Rattle.css_tree.specs.Tree.{Trees, Tree}
 use Rattle.css_job.specs.Reading.{Reading, IsReadingOf}
 use Rattle.css_job.specs.Warnings.{is_empty_block, before_brace, empty_blocks}
 

@@ -1,5 +1,5 @@
 -- What is to be done once all is read, as a function of the words, the input, its reading, and whether the input couldn't be read.
-use Rattle.std.specs.Prelude.{ℕ, nat_lt, ◌==◌, count_by, List, [], ◌∷◌, length, Bool, true, false, Option, Some, None, Ok, Err, encode_utf8_all, if◌then◌else◌}
+use Rattle.std.specs.Prelude.{ℕ, nat_lt, ◌==◌, count_by, List, [], ◌∷◌, length, Bool, Option, Some, None, Ok, Err, encode_utf8_all, if◌then◌else◌}
 use Rattle.std.specs.Str.{chars, is_utf8}
 use Rattle.std.specs.Str.Lossy.{utf8_valid_len}
 use Rattle.css_tree.specs.Tree.{Tree}

@@ -1,5 +1,5 @@
 -- The nodes of a tree in document order, one after another.
-use Rattle.std.specs.Prelude.{◌≡◌, ℕ, ◌<◌, List, [], ◌∷◌, ◌++◌, length, map, Option, Some, None}
+use Rattle.std.specs.Prelude.{◌≡◌, ℕ, List, [], ◌∷◌, ◌++◌, map, Option, Some, None}
 use Rattle.css_text.specs.Place.{place_of}
 use Rattle.css_text.specs.Ahead.{byte_len}
 use Rattle.css_text.specs.declared.lexer.Span.{Span}

@@ -1,5 +1,5 @@
 -- The warnings on a text: those of stylelint's rule block-no-empty in this project's profile, or the one on a text that is no sheet.
-use Rattle.std.specs.Prelude.{ℕ, ◌+◌, List, [], ◌∷◌, ◌++◌, Bool, true, false, Option, Some, None, Result, Ok, Err, map, codes, if◌then◌else◌}
+use Rattle.std.specs.Prelude.{ℕ, ◌+◌, List, [], ◌∷◌, ◌++◌, Bool, true, false, Option, Some, Ok, Err, map, codes, if◌then◌else◌}
 use Rattle.css_text.specs.declared.lexer.Span.{Span}
 use Rattle.css_text.specs.declared.text.Place.{Place}
 use Rattle.css_text.specs.Place.{place_of}
@@ -7,7 +7,7 @@ use Rattle.css_text.specs.Ahead.{byte_len}
 use Rattle.css_tree.specs.declared.fault.SyntaxFault.{SyntaxFault}
 use Rattle.css_tree.specs.declared.node.NodeText.{NodeText}
 use Rattle.css_tree.specs.declared.node.NodeText.TheVariants as N
-use Rattle.css_tree.specs.Tree.{Trees, none, node, Tree}
+use Rattle.css_tree.specs.Tree.{Trees, none, node}
 use Rattle.css_tree.specs.Laws.{start_of}
 use Rattle.css_job.specs.declared.warning.Severity.{Severity}
 use Rattle.css_job.specs.declared.warning.Severity.TheVariants.{Error}

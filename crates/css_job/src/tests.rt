@@ -33,6 +33,9 @@ const WRONG: &str = "csswork: <stdin> is not UTF-8 at byte 1\n";
 
 const MARKED: &[u8] = b"\xef\xbb\xbfa{}\r\n/*\xf0\x9f\x98\x80*/b{}";
 
+const ORDINARY: &str =
+    "@charset \"utf-8\";\n@import url(\"base.css\") screen;\n\n/* Fonts */\n@font-face {\n  font-family: \"Open Sans\";\n  src: url(open-sans.woff2) format(\"woff2\"), url(data:font/woff;base64,d09GRg==) format(\"woff\");\n}\n\n:root {\n  --brand: #aabbcc;\n}\n\n.nav > li:not(.active)::before {\n  content: \"\\201C\";\n  color: var(--brand, #336699);\n  -webkit-transition: opacity .2s ease-in-out;\n  transition: opacity .2s ease-in-out;\n}\n\n@media screen and (min-width: 600px) {\n  .nav { margin: 0 auto; }\n}\n\n@keyframes fade {\n  from { opacity: 0; }\n  to { opacity: 1 !important; }\n}\n";
+
 // No call has this number.
 const NEVER: u64 = 1_000_000;
 
@@ -118,8 +121,9 @@ fn lints(rt: HostRuntime) -> Result<(), Fail> {
 
 #[test]
 fn transforms(rt: HostRuntime) -> Result<(), Fail> {
-    let same: [&[u8]; 8] = [
+    let same: [&[u8]; 9] = [
         b"",
+        ORDINARY.as_bytes(),
         b"a{color:red;;/*x*/}",
         b"a { *zoom : 1 ! Important }",
         b"a{b: !important;}",
@@ -170,6 +174,27 @@ fn transforms(rt: HostRuntime) -> Result<(), Fail> {
         assert_eq!(rt; result.out.bytes(), b"".as_slice(), "{line}");
         assert_eq!(rt; result.err.bytes(), line.as_bytes(), "{line}");
     }
+    Ok(())
+}
+
+// Each front of an ordinary sheet is written as it was, or has a fault and nothing is written.
+#[test]
+fn fronts(rt: HostRuntime) -> Result<(), Fail> {
+    let sheet = ORDINARY.as_bytes();
+    let mut read = Vec::new(rt.alloc());
+    for end in 0..sheet.len() {
+        let front = &sheet[..end];
+        let result = run_with(rt.alloc(), &["transform"], front, NONE)?;
+        let (kind, _) = fault_of(&result.ended);
+        if kind == "none" {
+            assert_eq!(rt; result.out.bytes(), front, "{end}");
+            read.push(end)?;
+        } else {
+            assert_eq!(rt; kind, "syntax", "{end}");
+            assert_eq!(rt; result.out.bytes(), b"".as_slice(), "{end}");
+        }
+    }
+    assert_eq!(rt; read.len(), 92);
     Ok(())
 }
 

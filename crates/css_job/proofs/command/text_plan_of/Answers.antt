@@ -1,4 +1,4 @@
-use Rattle.css_job.proofs.Commands.{of_fault, fault_of, of_text}
+use Rattle.css_job.proofs.Commands.{of_fault, fault_of}
 use Rattle.css_job.proofs.command.text_plan_of.Goals as goal
 
 pub returns-in-Err-Fault : goal.returns-in-Err-Fault

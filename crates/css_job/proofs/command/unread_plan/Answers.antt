@@ -1,4 +1,4 @@
-use Rattle.std.proofs.Common.{ap, sym, map, ◌∙◌, Err, [], ◌∷◌, refl}
+use Rattle.std.proofs.Common.{ap, sym, map, ◌∙◌, Err, [], ◌∷◌}
 use Rattle.css_job.specs.Faults.{input_name}
 use Rattle.css_job.specs.Plan.{stopped, reported, text_plan}
 use Rattle.css_job.specs.Shown.{warning_seen}

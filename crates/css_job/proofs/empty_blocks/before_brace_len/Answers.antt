@@ -1,4 +1,4 @@
-use Rattle.std.proofs.Common.{◌∙◌, ap, arith}
+use Rattle.std.proofs.Common.{ap, arith}
 use Rattle.css_text.specs.Ahead.{byte_len}
 use Rattle.css_text.proofs.Slices.{byte_len-append}
 use Rattle.css_job.specs.Warnings.{before_brace}

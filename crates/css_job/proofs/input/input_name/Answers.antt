@@ -1,4 +1,3 @@
-use Rattle.std.proofs.Common.{◌∙◌}
 use Rattle.css_job.proofs.Names.{input_named}
 use Rattle.css_job.proofs.input.input_name.Goals as goal
 

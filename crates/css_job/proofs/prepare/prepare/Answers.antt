@@ -1,7 +1,7 @@
 use Rattle.std.proofs.Common.{sym, ◌∙◌, map}
 use Rattle.css_job.specs.Words.{word}
 use Rattle.css_job.specs.Stages.{plan_seen}
-use Rattle.css_job.proofs.Reading.{not_taken, few_read, prepared_whole, prepared_unread, prepared_large, unprepared_memory}
+use Rattle.css_job.proofs.Reading.{not_taken, prepared_whole, prepared_unread, prepared_large, unprepared_memory}
 use Rattle.css_job.proofs.prepare.prepare.Goals as goal
 
 pub returns-in-None : goal.returns-in-None
