@@ -1,11 +1,19 @@
-// Whole runs in memory, with calls that fail.
-ghost use Rattle.std.specs.Prelude.{◌<◌};
+// Whole runs in memory, with calls that fail; and what is printed of one node of what was parsed.
+ghost use Rattle.std.specs.Prelude.{◌<◌, ◌≤◌, length};
 
 use crate::fault::Fault;
 use crate::run::{Ended, run};
+use css_parse::parse::parse;
+use css_text::stop::Stop;
+use css_text::text::Text;
 use io_edge::memory::{MemSink, MemSource};
+use node_store::fault::TreeFault;
+use node_store::id::NodeId;
+use node_store::work::Work;
 use std::alloc::{AllocError, Global};
+use std::process::Abort;
 use std::test::Fail;
+use stringify::printed::print_node;
 
 const EMPTY_BLOCK: &str =
     "<stdin>\n  1:2  error  Unexpected empty block  block-no-empty\n\n1 problem (1 error, 0 warnings)\n";
@@ -335,6 +343,42 @@ fn limits(rt: HostRuntime) -> Result<(), Fail> {
             assert_eq!(rt; result.ended.status, status, "{word} {size}");
             assert_eq!(rt; result.err.bytes(), line.as_bytes(), "{word} {size}");
         }
+    }
+    Ok(())
+}
+
+fn work_of(alloc: Global, src: &str) -> Option<Work>
+    requires { length src.now ≤ 10000 }
+{
+    let text = match src.as_bytes().to_vec(alloc) {
+        Ok(bytes) => Text::new(alloc, bytes),
+        Err(_) => return None,
+    };
+    match text {
+        Ok(text) => match parse(alloc, text) {
+            Ok(work) => Some(work),
+            Err(_) => None,
+        },
+        Err(_) => None,
+    }
+}
+
+fn expect_printed(rt: &impl Abort, alloc: Global, work: &Work) {
+    match print_node(alloc, work, NodeId::new(2)) {
+        Ok(printed) => assert_eq!(rt; printed.text.as_str(), "b:c"),
+        Err(_) => assert!(rt; false),
+    }
+    match print_node(alloc, work, NodeId::new(9)) {
+        Err(Stop::Fault(fault)) => assert_eq!(rt; fault, TreeFault::NoSuchNode),
+        _ => assert!(rt; false),
+    }
+}
+
+#[test]
+fn prints_one_node(rt: HostRuntime) -> Result<(), Fail> {
+    match work_of(rt.alloc(), "a{b:c}") {
+        Some(work) => expect_printed(&rt, rt.alloc(), &work),
+        None => assert!(rt; false),
     }
     Ok(())
 }
