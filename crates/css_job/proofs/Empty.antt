@@ -5,12 +5,12 @@ use Rattle.css_tree.specs.declared.node.NodeText.{NodeText}
 use Rattle.css_tree.specs.declared.node.NodeText.TheVariants as N
 use Rattle.css_text.specs.declared.lexer.Span.{Span}
 use Rattle.css_tree.specs.Tree.{Trees, none, node}
-use Rattle.node_store.specs.Nodes.{Node, children_of, siblings}
-use Rattle.node_store.specs.Sound.{IsSound}
-use Rattle.node_store.specs.NumberTrees.{plain, below, number_trees}
-use Rattle.node_store.proofs.Behind.{first-some, first-none}
-use Rattle.node_store.proofs.Edits.{parent-inside}
-use Rattle.node_store.proofs.Levels.{number_trees-more, number_trees-none}
+use Rattle.node_rows.specs.Nodes.{Node, children_of, siblings}
+use Rattle.node_rows.specs.Sound.{IsSound}
+use Rattle.node_rows.specs.NumberTrees.{plain, below, number_trees}
+use Rattle.node_rows.proofs.Behind.{first-some, first-none}
+use Rattle.node_rows.proofs.Edits.{parent-inside}
+use Rattle.node_rows.proofs.Levels.{number_trees-more, number_trees-none}
 use Rattle.css_job.specs.Warnings.{is_empty_block}
 
 not_empty : (text t : NodeText) (s : Option Span) (k r : Trees) → is_empty_block text (node t s k r) ≡ false

@@ -18,11 +18,11 @@ use Rattle.css_tree.specs.Whole.{AreWhole}
 use Rattle.css_tree.specs.Reads.{Reads}
 use Rattle.css_tree.proofs.Starts.{starts_at_spans}
 use Rattle.css_tree.proofs.Whole.{whole_nodes}
-use Rattle.node_store.specs.Nodes.{Node, text_of, span_of, siblings_in}
-use Rattle.node_store.specs.Sound.{IsSound}
-use Rattle.node_store.specs.NumberTrees.{NumberTrees, no_trees, tree, plain, below, number_trees, tree_at}
-use Rattle.node_store.proofs.Climb.{path-top}
-use Rattle.node_store.proofs.Levels.{number_trees-none}
+use Rattle.node_rows.specs.Nodes.{Node, text_of, span_of, siblings_in}
+use Rattle.node_rows.specs.Sound.{IsSound}
+use Rattle.node_rows.specs.NumberTrees.{NumberTrees, no_trees, tree, plain, below, number_trees, tree_at}
+use Rattle.node_rows.proofs.Climb.{path-top}
+use Rattle.node_rows.proofs.Levels.{number_trees-none}
 use Rattle.css_job.specs.Warnings.{Warning, brace_of_empty, empty_blocks, empty_block_warning}
 use Rattle.css_job.specs.Walk.{Entry, entries, later_on, later, onward, found, EachStands}
 

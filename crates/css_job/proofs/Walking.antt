@@ -1,13 +1,13 @@
 -- The steps of the walk in document order.
 use Rattle.std.proofs.Common.{◌≡◌, ℕ, ◌<◌, List, [], ◌∷◌, ◌++◌, length, Some, None, refl, sym, ap, ◌∙◌, append_assoc, append-nil, slice_get, arith}
 use Rattle.std.specs.Prelude.{Option}
-use Rattle.node_store.specs.Nodes.{Node, parent_of, children_of, siblings, next_sibling_of, child_after, path}
-use Rattle.node_store.specs.Sound.{IsSound}
-use Rattle.node_store.specs.NumberTrees.{number_trees, below}
-use Rattle.node_store.proofs.Behind.{first-some, first-none, sibling-some, sibling-none}
-use Rattle.node_store.proofs.Climb.{path-step, path-top}
-use Rattle.node_store.proofs.Edits.{parent-inside}
-use Rattle.node_store.proofs.Levels.{number_trees-more, number_trees-none}
+use Rattle.node_rows.specs.Nodes.{Node, parent_of, children_of, siblings, next_sibling_of, child_after, path}
+use Rattle.node_rows.specs.Sound.{IsSound}
+use Rattle.node_rows.specs.NumberTrees.{number_trees, below}
+use Rattle.node_rows.proofs.Behind.{first-some, first-none, sibling-some, sibling-none}
+use Rattle.node_rows.proofs.Climb.{path-step, path-top}
+use Rattle.node_rows.proofs.Edits.{parent-inside}
+use Rattle.node_rows.proofs.Levels.{number_trees-more, number_trees-none}
 use Rattle.css_job.specs.Walk.{entries, later_on, later, onward, from}
 
 module _ (ns : List Node) (s : IsSound ns) where

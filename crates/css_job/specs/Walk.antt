@@ -6,8 +6,8 @@ use Rattle.css_text.specs.declared.lexer.Span.{Span}
 use Rattle.css_tree.specs.declared.node.NodeText.{NodeText}
 use Rattle.css_tree.specs.Laws.{start_of}
 use Rattle.css_tree.specs.Print.{opening}
-use Rattle.node_store.specs.Nodes.{Node, text_of, span_of, path, siblings}
-use Rattle.node_store.specs.NumberTrees.{NumberTrees, no_trees, tree, number_trees, plain, below}
+use Rattle.node_rows.specs.Nodes.{Node, text_of, span_of, path, siblings}
+use Rattle.node_rows.specs.NumberTrees.{NumberTrees, no_trees, tree, number_trees, plain, below}
 use Rattle.css_job.specs.Warnings.{Warning, brace_of_empty, empty_block_warning}
 
 -- a number with the trees below it

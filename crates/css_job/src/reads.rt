@@ -1,6 +1,6 @@
 // Reading a node whose number was given out.
 ghost use Rattle.std.specs.Prelude.{◌≡◌, ◌<◌, length, slice_get};
-ghost use Rattle.node_store.specs.Nodes.{text_of, span_of, parent_of, children_of, next_sibling_of};
+ghost use Rattle.node_rows.specs.Nodes.{text_of, span_of, parent_of, children_of, next_sibling_of};
 
 use css_text::lexer::Span;
 use css_tree::node::NodeText;

@@ -1,6 +1,6 @@
 // A walk over the nodes of a tree in document order, without recursion.
 ghost use Rattle.std.specs.Prelude.{◌≡◌, ◌<◌, length};
-ghost use Rattle.node_store.specs.Nodes.{IsGiven};
+ghost use Rattle.node_rows.specs.Nodes.{IsGiven};
 ghost use Rattle.css_job.specs.Walk.{from, later, onward};
 
 use crate::reads;

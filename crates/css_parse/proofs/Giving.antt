@@ -1,6 +1,6 @@
 -- Blanks that are given back to a container, and its end.
 use Rattle.std.proofs.Common.{◌≡◌, ℕ, suc, zero, ◌<◌, List, [], ◌∷◌, ◌++◌, Bool, true, false, length, refl, ◌∙◌, sym, ap, append_assoc, append-nil, arith, get_or, set, Some}
-use Rattle.node_store.specs.declared.node_list.NodeAt.{NodeAt}
+use Rattle.node_rows.specs.declared.node_list.NodeAt.{NodeAt}
 use Rattle.css_tree.specs.declared.node.NodeText.{NodeText}
 use Rattle.css_tree.specs.Pieces.{Piece, Shape, shape, is_blank, is_blank_shape, join, end_of}
 use Rattle.css_tree.specs.Nodes.{Nodes, comment, ends_with_semicolon}

@@ -16,8 +16,9 @@ use Rattle.css_tree.proofs.Reader.{finish, ok}
 use Rattle.css_tree.proofs.Reading.{read, read-reads, read-holds}
 use Rattle.css_tree.proofs.Sound.{Holds, line_rest}
 use Rattle.css_tree.proofs.Sizes.{two_bytes, at_most_half}
-use Rattle.node_store.specs.declared.node_list.NodeAt.{NodeAt}
-use Rattle.node_store.specs.NodeList.{no_entry, entry_at, IsNodeList}
+use Rattle.node_rows.specs.declared.node_list.NodeAt.{NodeAt}
+use Rattle.node_rows.specs.NodeList.{no_entry, entry_at}
+use Rattle.node_store.specs.NodeList.{IsNodeList}
 use Rattle.node_store.specs.Forest.{IsSpanOf}
 use Rattle.css_parse.specs.Machine.{count, flat}
 use Rattle.css_text.specs.declared.stop.Stop.{Stop}

@@ -13,7 +13,7 @@ use Rattle.css_tree.proofs.Reader.{finish, closed, Outcome, fails, ok}
 use Rattle.css_tree.proofs.Sound.{Holds}
 use Rattle.css_tree.proofs.Agrees.{fault_in}
 use Rattle.css_tree.proofs.Reading.{read, read-holds, fault-is}
-use Rattle.node_store.specs.declared.node_list.NodeAt.{NodeAt}
+use Rattle.node_rows.specs.declared.node_list.NodeAt.{NodeAt}
 use Rattle.node_store.specs.Fresh.{numbered_of}
 use Rattle.css_parse.specs.Gaps.{gap_of}
 use Rattle.css_parse.specs.Machine.{leaf_node, open_end, with_block, seal_root, root_node, count, flat, alter, resume, faulty, done, final, answer, start}

@@ -17,7 +17,7 @@ use Rattle.css_tree.proofs.Formed.{FormedBy, AllFormed, cut-formed}
 use Rattle.css_parse.specs.Machine.{Machine, answer, faulty, start, IsReady}
 use Rattle.css_text.specs.declared.stop.Stop.{Stop}
 use Rattle.css_text.specs.declared.stop.Stop.TheVariants as StopOf
-use Rattle.node_store.specs.declared.node_list.NodeAt.{NodeAt}
+use Rattle.node_rows.specs.declared.node_list.NodeAt.{NodeAt}
 use Rattle.css_parse.specs.Model.{IsSmall, Advances, IsStop, IsEnd}
 use Rattle.css_parse.specs.Reading.{whole, IsRead}
 use Rattle.css_parse.specs.Lexical.{found_of}

@@ -1,6 +1,6 @@
 -- A step of the machine leaves what it comes to.
 use Rattle.std.proofs.Common.{◌≡◌, ℕ, suc, zero, ◌+◌, ◌<◌, ◌≤◌, List, [], ◌∷◌, ◌++◌, Option, Some, None, Bool, true, false, length, map, refl, ◌∙◌, sym, ap, subst, append_assoc, length-append, arith}
-use Rattle.node_store.specs.declared.node_list.NodeAt.{NodeAt}
+use Rattle.node_rows.specs.declared.node_list.NodeAt.{NodeAt}
 use Rattle.css_parse.specs.declared.turn.Frame.{Frame}
 use Rattle.css_tree.specs.Classes.{BeginsWithout}
 use Rattle.css_tree.specs.Pieces.{Piece, Shape, shape, is_blank, is_blank_shape, join}

@@ -2,8 +2,8 @@
 use Rattle.std.proofs.Common.{◌≡◌, ℕ, suc, ◌+◌, ◌<◌, ◌≤◌, ◌==◌, if◌then◌else◌, List, [], ◌∷◌, ◌++◌, Bool, true, false, nat_eq, map, refl, ◌∙◌, sym, ap, append_assoc, append-nil, arith}
 use Rattle.std.specs.List.{list_any}
 use Rattle.std.proofs.lemmas.Bool.{ne_eqb, eq-eqb, eqb-true}
-use Rattle.node_store.specs.declared.node_list.NodeAt.{NodeAt}
-use Rattle.node_store.specs.NodeList.{path_from, are_ordered}
+use Rattle.node_rows.specs.declared.node_list.NodeAt.{NodeAt}
+use Rattle.node_rows.specs.NodeList.{path_from, are_ordered}
 use Rattle.css_tree.specs.Nodes.{Nodes, none, comment, leaf, block}
 use Rattle.css_parse.specs.Machine.{count, flat}
 

@@ -10,7 +10,7 @@ use Rattle.css_tree.specs.Tree.{Tree}
 use Rattle.css_tree.specs.Reads.{Reads}
 use Rattle.css_tree.specs.Numbered.{numbered}
 use Rattle.css_tree.specs.Fault.{Fault, fault}
-use Rattle.node_store.specs.declared.node_list.NodeAt.{NodeAt}
+use Rattle.node_rows.specs.declared.node_list.NodeAt.{NodeAt}
 use Rattle.node_store.specs.NodeList.{IsNodeList}
 use Rattle.node_store.specs.Fresh.{numbered_of}
 

@@ -4,7 +4,7 @@ use Rattle.css_text.specs.declared.lexer.Span.{Span}
 use Rattle.css_tree.specs.declared.node.Block.{Block}
 use Rattle.css_tree.specs.declared.node.NodeText.{NodeText}
 use Rattle.css_tree.specs.declared.node.NodeText.TheVariants as N
-use Rattle.node_store.specs.declared.node_list.NodeAt.{NodeAt}
+use Rattle.node_rows.specs.declared.node_list.NodeAt.{NodeAt}
 use Rattle.css_tree.specs.Classes.{BeginsWithout}
 use Rattle.css_tree.specs.Pieces.{Piece, shape, is_blank, join, end_of, last_end}
 use Rattle.css_tree.specs.Turn.{Turn, within, gap, alone, ends, closes, opens}

@@ -3,7 +3,7 @@ use Rattle.std.specs.Prelude.{◌≡◌, ◌+◌, ◌≤◌, ℕ, List, [], ◌�
 use Rattle.std.proofs.Common.{Global}
 use Rattle.css_text.specs.declared.stop.Stop.{Stop}
 use Rattle.css_text.specs.declared.stop.Stop.TheVariants as E
-use Rattle.node_store.specs.declared.node_list.NodeAt.{NodeAt}
+use Rattle.node_rows.specs.declared.node_list.NodeAt.{NodeAt}
 use Rattle.css_tree.specs.Pieces.{Piece}
 use Rattle.css_tree.specs.Fault.{Fault}
 use Rattle.css_parse.specs.declared.parser.Parser.{Parser}

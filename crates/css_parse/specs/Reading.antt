@@ -4,7 +4,7 @@ use Rattle.std.proofs.Common.{Global}
 use Rattle.css_text.specs.declared.stop.Stop.{Stop}
 use Rattle.css_text.specs.declared.stop.Stop.TheVariants as E
 use Rattle.css_text.specs.Ahead.{byte_len, begins_bom}
-use Rattle.node_store.specs.declared.node_list.NodeAt.{NodeAt}
+use Rattle.node_rows.specs.declared.node_list.NodeAt.{NodeAt}
 use Rattle.css_tree.specs.Pieces.{pieces_of}
 use Rattle.css_tree.specs.Fault.{Fault, lexical_fault}
 use Rattle.css_parse.specs.Machine.{Final, answer, faulty, done, start}

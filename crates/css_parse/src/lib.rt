@@ -6,6 +6,8 @@ mod found;
 mod gap;
 mod mark;
 mod nodes;
+#[cfg(test)]
+mod odd_texts;
 pub mod parse;
 mod parser;
 mod piece;

@@ -11,7 +11,7 @@ use crate::fields;
 use crate::piece::{Piece, Shape};
 use css_text::lexer::Span;
 use css_tree::node::{Block, NodeText};
-use node_store::node_list::NodeAt;
+use node_rows::node_list::NodeAt;
 use std::alloc::{AllocError, Global};
 
 /// A container's end before it is known.

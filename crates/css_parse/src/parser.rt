@@ -21,7 +21,7 @@ use css_text::lexer::Span;
 use css_text::stop::Stop;
 use css_text::txt::Txt;
 use css_tree::node::{Block, NodeText};
-use node_store::node_list::NodeAt;
+use node_rows::node_list::NodeAt;
 use std::alloc::{AllocError, Global};
 
 /// The nodes so far; the open container's number, and whether a `;` stands behind its last declaration or blockless

@@ -16,7 +16,7 @@ use css_text::lexer::{self, LexFault, Lexer};
 use css_text::stop::Stop;
 use css_text::text::Text;
 use css_tree::fault::SyntaxKind;
-use node_store::node_list::NodeAt;
+use node_rows::node_list::NodeAt;
 use std::alloc::Global;
 
 /// A piece of the lexer with its text.

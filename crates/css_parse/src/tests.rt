@@ -7,11 +7,11 @@ use css_text::stop::{Stop, TextFault};
 use css_text::text::Text;
 use css_tree::fault::SyntaxKind;
 use css_tree::node::{Block, NodeText};
-use node_store::node_list::NodeAt;
+use node_rows::node_list::NodeAt;
 use std::alloc::{AllocError, Global};
 use std::test::Fail;
 
-fn text_of(alloc: Global, src: &str) -> Result<Text, Stop<TextFault>>
+pub fn text_of(alloc: Global, src: &str) -> Result<Text, Stop<TextFault>>
     requires { length src.now ≤ 10000 }
 {
     match src.as_bytes().to_vec(alloc) {
@@ -114,7 +114,7 @@ fn push_text(out: &mut String, text: &NodeText) -> Result<(), AllocError> {
 }
 
 // Each node: its parent, its span, its fields and raws.
-fn shown(alloc: Global, nodes: &[NodeAt]) -> Result<String, AllocError> {
+pub fn shown(alloc: Global, nodes: &[NodeAt]) -> Result<String, AllocError> {
     let mut out = String::new(alloc);
     for node in nodes {
         let place = format!(in alloc; "{} {}-{} ", node.parent, node.span.start, node.span.end)?;

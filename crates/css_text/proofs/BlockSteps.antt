@@ -16,10 +16,10 @@ parts from to h = omega arith
 pub units_split : (bs : List ℕ) (from to : ℕ) → from ≤ to → sum_by byte_units (take to bs) ≡ sum_by byte_units (take from bs) + sum_by byte_units (take (to - from) (drop from bs))
 units_split bs from to h = ap (λ n. sum_by byte_units (take n bs)) (parts from to h) ∙ ap (sum_by byte_units) (take_split bs from (to - from)) ∙ sum_by-append byte_units (take from bs) (take (to - from) (drop from bs))
 
-push_each : (table bs : List ℕ) (n : ℕ) → CountsUnits table bs → n ≡ sum_by byte_units (take (length table * 4096) bs) → (k : ℕ) → k < length (table ++ n ∷ []) → get_or (table ++ n ∷ []) k 0 ≡ sum_by byte_units (take (k * 4096) bs)
+push_each : (table bs : List ℕ) (n : ℕ) → CountsUnits table bs → n ≡ sum_by byte_units (take (length table * 256) bs) → (k : ℕ) → k < length (table ++ n ∷ []) → get_or (table ++ n ∷ []) k 0 ≡ sum_by byte_units (take (k * 256) bs)
 push_each table bs n h e k l = elim (cases_lt k (length table)) [
   | inl j ↦ get_or_append_left table (n ∷ []) 0 k j ∙ h.each k j
-  | inr j ↦ let i : k ≡ length table = omega (arith, length-append table (n ∷ [])) in get_or_push table n 0 k (sym i) ∙ e ∙ ap (λ m. sum_by byte_units (take (m * 4096) bs)) (sym i)
+  | inr j ↦ let i : k ≡ length table = omega (arith, length-append table (n ∷ [])) in get_or_push table n 0 k (sym i) ∙ e ∙ ap (λ m. sum_by byte_units (take (m * 256) bs)) (sym i)
 ]
 
 push_small : (table bs : List ℕ) (n : ℕ) → CountsUnits table bs → n ≤ 2 * length bs → (k : ℕ) → k < length (table ++ n ∷ []) → get_or (table ++ n ∷ []) k 0 ≤ 2 * length bs
@@ -28,7 +28,7 @@ push_small table bs n h e k l = elim (cases_lt k (length table)) [
   | inr j ↦ let i : k ≡ length table = omega (arith, length-append table (n ∷ [])) in rw (get_or_push table n 0 k (sym i)) e
 ]
 
-pub CountsUnits-push : (table bs new : List ℕ) (n : ℕ) → CountsUnits table bs → new ≡ table ++ n ∷ [] → n ≡ sum_by byte_units (take (length table * 4096) bs) → n ≤ 2 * length bs → CountsUnits new bs
+pub CountsUnits-push : (table bs new : List ℕ) (n : ℕ) → CountsUnits table bs → new ≡ table ++ n ∷ [] → n ≡ sum_by byte_units (take (length table * 256) bs) → n ≤ 2 * length bs → CountsUnits new bs
 CountsUnits-push table bs new n h g e s = subst (λ x. CountsUnits x bs) (sym g) (record { each = push_each table bs n h e; small = push_small table bs n h s })
 
 pub CountsUnits-first : (bs new : List ℕ) → new ≡ [] ++ 0 ∷ [] → CountsUnits new bs

@@ -91,7 +91,7 @@ pub fn spaces_end(s: &[u8], from: usize) -> usize
 
 /// Where the character or the escape at the index ends.
 #[tactic(auto, unfolding(crate::specs::Forms::unit_end))]
-fn unit_end(s: &[u8], at: usize) -> usize
+pub fn unit_end(s: &[u8], at: usize) -> usize
     requires { at < length s.now }
     ensures within { result ≤ length s.now }
     ensures longer { at < result }

@@ -17,3 +17,4 @@ pub mod Agrees
 pub mod Runs
 pub mod Sound
 pub mod Complete
+pub mod Plain

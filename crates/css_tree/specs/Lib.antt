@@ -14,3 +14,5 @@ pub mod Reads
 pub mod Laws
 pub mod Whole
 pub mod Examples
+pub mod Changes
+pub mod ChangeExamples

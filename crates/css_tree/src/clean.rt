@@ -56,6 +56,10 @@ fn cleaned(alloc: Global, src: &str) -> Result<String, AllocError>
 pub fn clean(alloc: Global, src: &str) -> Result<Txt, AllocError>
     ensures { IfOk result (λ t. t ≡ clean_of (chars src.now)) }
 {
+    // A text without a star has no comment.
+    if !src.as_bytes().contains(&b'*') {
+        return Txt::new(alloc, src);
+    }
     let text = cleaned(alloc, src)?;
     Ok(Txt::from_string(text))
 }

@@ -3,6 +3,7 @@ ghost use Rattle.css_tree.specs.Whole.{WholeNodes};
 ghost use Rattle.css_tree.specs.Laws.{OneReading, FaultOrReading, FaultAtStop, PrintsBack, StartsAtSpans, TwoBytes, AtMostHalf};
 ghost use Rattle.css_tree.specs.Examples.{SecondSemicolon, HackAndMark, MarkAlone, MarkAndComment, HiddenMark, CustomProperty, CustomRule, UrlValue, Brackets, RuleLast, BlanksBack, CommentsInFields, EmptyParams, OtherHacks, WhiteComment, MarkOfOrder, EmptyText};
 ghost use Rattle.css_tree.specs.Examples.{Faults, FirstFaults, Depth, Cleaned, NewNodes, NewAndOld};
+ghost use Rattle.css_tree.specs.ChangeExamples.{ChangedValue, ChangedMark, ChangedRaws, OtherKinds};
 
 /// A text has at most one reading.
 pub fn one_reading()
@@ -67,6 +68,14 @@ pub fn other_examples()
     ensures new_and_old { NewAndOld }
 {}
 
+/// What changes make of small node texts.
+pub fn change_examples()
+    ensures value { ChangedValue }
+    ensures mark { ChangedMark }
+    ensures raws { ChangedRaws }
+    ensures other_kinds { OtherKinds }
+{}
+
 #[cfg(test)]
 mod tests {
     use super::*;
@@ -81,5 +90,6 @@ mod tests {
         whole_nodes();
         reading_examples();
         other_examples();
+        change_examples();
     }
 }

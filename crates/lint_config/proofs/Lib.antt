@@ -1,3 +1,11 @@
 pub mod Backtrack
 pub mod Slashes
 pub mod Globs
+pub mod Items
+pub mod Numbers
+pub mod Behind
+pub mod SoundRead
+pub mod Modes
+pub mod SoundSettings
+pub mod BuiltInRead
+pub mod Names

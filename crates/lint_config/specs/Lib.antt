@@ -1,6 +1,17 @@
 pub mod Rules
 pub mod Choices
+pub mod RuleValues
+pub mod ConfigOf
+pub mod ConfigView
+pub mod Sound
+pub mod Keys
+pub mod Reading
+pub mod Resolved
+pub mod ResolvedLaws
+pub mod ModesView
+pub mod BuiltIn
 pub mod Examples
+pub mod ConfigExamples
 pub mod Glob
 pub mod Trial
 pub mod Turns

@@ -3,9 +3,18 @@
 #![tactic(auto)]
 
 mod characters;
+pub mod config;
+#[cfg(test)]
+mod config_tests;
 pub mod found;
+mod keys;
 pub mod laws;
+mod options;
+mod owned;
 pub mod paths;
+mod patterns;
+pub mod reading;
+pub mod resolve;
 pub mod rule;
 pub mod settings;
 pub mod table;

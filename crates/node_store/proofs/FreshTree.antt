@@ -1,20 +1,20 @@
 -- A forest whose nodes are numbered in document order has the tree that was numbered.
-use Rattle.std.proofs.Common.{◌≡◌, ℕ, zero, suc, ◌+◌, ◌<◌, ◌≤◌, List, [], ◌∷◌, ◌++◌, Bool, true, false, length, map, Option, Some, None, refl, ap, sym, ◌∙◌, subst, arith, eqb, cond, append_assoc, append-nil, length-append, ◌⊎◌, inl, inr}
+use Rattle.std.proofs.Common.{◌≡◌, ℕ, suc, ◌+◌, ◌<◌, ◌≤◌, List, [], ◌∷◌, ◌++◌, Bool, true, false, length, map, Option, refl, ap, sym, ◌∙◌, subst, arith, eqb, cond, append_assoc, append-nil, length-append, ◌⊎◌, inl, inr}
 use Rattle.std.proofs.lemmas.Bool.{ne_eqb}
 use Rattle.std.proofs.lemmas.Grind.{common_steps}
 use Rattle.css_text.specs.declared.lexer.Span.{Span}
 use Rattle.css_tree.specs.declared.node.NodeText.{NodeText}
 use Rattle.css_tree.specs.Tree.{Trees, none, node, Tree}
 use Rattle.css_tree.specs.Numbered.{Numbered, number_after, numbered_below, numbered}
-use Rattle.node_store.specs.declared.node_list.NodeAt.{NodeAt}
-use Rattle.node_store.specs.Nodes.{Node, node_at, text_of, span_of, children_of}
-use Rattle.node_store.specs.NodeList.{entry_at, children_from, children_in, nodes_of, forest_of}
-use Rattle.node_store.specs.NumberTrees.{NumberTrees, no_trees, tree, number_trees, plain, below, tree_at}
-use Rattle.node_store.specs.Sound.{IsSound}
+use Rattle.node_rows.specs.declared.node_list.NodeAt.{NodeAt}
+use Rattle.node_rows.specs.Nodes.{Node, node_at, text_of, span_of, children_of}
+use Rattle.node_rows.specs.NodeList.{entry_at, children_from, nodes_of}
+use Rattle.node_rows.specs.NumberTrees.{number_trees, plain, tree_at}
+use Rattle.node_rows.specs.Sound.{IsSound}
 use Rattle.node_store.specs.Forest.{Forest, IsForest, tree_of}
 use Rattle.node_store.specs.Fresh.{IsFresh, numbered_of}
-use Rattle.node_store.proofs.Levels.{number_trees-more, number_trees-none}
-use Rattle.node_store.proofs.Built.{nodes_of-at, nodes_of-length, entry_node}
+use Rattle.node_rows.proofs.Levels.{number_trees-more, number_trees-none}
+use Rattle.node_rows.proofs.Built.{nodes_of-at, nodes_of-length, entry_node}
 
 -- the numbers of the nodes whose parent is p, where the first node has the number n
 abbrev pub kids : ℕ → ℕ → List Numbered → List ℕ

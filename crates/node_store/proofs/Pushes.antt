@@ -1,5 +1,5 @@
 -- A list of nodes with one more behind it.
-use Rattle.std.proofs.Common.{◌≡◌, ◌≢◌, ℕ, zero, suc, ◌+◌, ◌<◌, ◌≤◌, List, [], ◌∷◌, ◌++◌, Bool, true, false, length, map, drop, IsSome, refl, ap, sym, ◌∙◌, subst, arith, eqb, cond, length-append, ◌⊎◌, inl, inr, ◌&&◌, ◌||◌, eq-eqb}
+use Rattle.std.proofs.Common.{◌≡◌, ◌≢◌, ℕ, ◌+◌, ◌<◌, ◌≤◌, List, [], ◌∷◌, ◌++◌, Bool, true, false, length, IsSome, refl, ap, sym, ◌∙◌, subst, arith, eqb, cond, length-append, ◌⊎◌, inl, inr, ◌&&◌, ◌||◌, eq-eqb}
 use Rattle.std.specs.List.{list_any}
 use Rattle.std.proofs.lemmas.Bool.{and_parts, cases_lt, cases_Bool, false≢true}
 use Rattle.std.proofs.lemmas.Bool.Decides.{nat_tests}
@@ -8,10 +8,11 @@ use Rattle.std.proofs.Math.ListN.{get_or-append}
 use Rattle.std.proofs.Math.Seq.{get_or-append_seam}
 use Rattle.css_tree.specs.declared.node.Kind.TheVariants as K
 use Rattle.css_tree.specs.Parts.{kind_of, block_of}
-use Rattle.node_store.specs.declared.node_list.NodeAt.{NodeAt}
+use Rattle.node_rows.specs.declared.node_list.NodeAt.{NodeAt}
 use Rattle.node_store.specs.Forest.{IsSpanOf}
-use Rattle.node_store.specs.NodeList.{no_entry, entry_at, path_from, are_ordered, is_document_order, path_after, last_path, parents_in, IsNodeList}
-use Rattle.node_store.proofs.Built.{Earlier, order-earlier}
+use Rattle.node_rows.specs.NodeList.{no_entry, entry_at, path_from, are_ordered, is_document_order, path_after, last_path, parents_in}
+use Rattle.node_store.specs.NodeList.{IsNodeList}
+use Rattle.node_rows.proofs.Built.{Earlier, order-earlier}
 
 or_right : (a b : Bool) → b ≡ true → (a || b) ≡ true
 or_right true b h = refl

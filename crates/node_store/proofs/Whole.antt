@@ -1,17 +1,19 @@
 -- The forest of a list of nodes is a forest.
-use Rattle.std.proofs.Common.{◌≡◌, ℕ, zero, suc, ◌<◌, List, length, Some, IsSome, ap, sym, ◌∙◌, subst, arith, inl, inr}
+use Rattle.std.proofs.Common.{◌≡◌, ℕ, zero, suc, ◌<◌, List, [], length, Option, Some, IsSome, ap, sym, ◌∙◌, subst, arith, inl, inr}
 use Rattle.std.proofs.lemmas.Bool.{cases_lt}
 use Rattle.std.proofs.lemmas.List.{get_or_past}
 use Rattle.css_text.specs.declared.lexer.Span.{Span}
 use Rattle.css_tree.specs.Parts.{kind_of, block_of}
-use Rattle.node_store.specs.declared.item.Item.{Item}
-use Rattle.node_store.specs.declared.node_list.NodeAt.{NodeAt}
-use Rattle.node_store.specs.Nodes.{Node, no_node, text_of, span_of}
-use Rattle.node_store.specs.Sound.{IsSound}
+use Rattle.node_store.specs.declared.seat.Seat.{Seat}
+use Rattle.node_rows.specs.declared.node_list.NodeAt.{NodeAt}
+use Rattle.node_rows.specs.Nodes.{Node, no_node, text_of, span_of}
+use Rattle.node_rows.specs.Sound.{IsSound}
 use Rattle.node_store.specs.Forest.{IsForest, IsSpanOf}
-use Rattle.node_store.specs.NodeList.{entry_at, parent_in, nodes_of, IsNodeList}
-use Rattle.node_store.proofs.Built.{nodes_of-at, nodes_of-length}
-use Rattle.node_store.proofs.Edits.{parent-inside}
+use Rattle.node_store.specs.Seats.{bare, IsStored}
+use Rattle.node_rows.specs.NodeList.{entry_at, parent_in, nodes_of}
+use Rattle.node_store.specs.NodeList.{IsNodeList}
+use Rattle.node_rows.proofs.Built.{nodes_of-at, nodes_of-length}
+use Rattle.node_rows.proofs.Edits.{parent-inside}
 
 -- a node with a span was given out
 pub span-inside : (ns : List Node) (n : ℕ) (span : Span) → span_of ns n ≡ Some span → n < length ns
@@ -30,8 +32,8 @@ module _ (text : List ℕ) (es : List NodeAt) (h : IsNodeList text es) (s : IsSo
   text_is : (n : ℕ) → n < length es → text_of (nodes_of es) n ≡ (entry_at es n).text
   text_is n b = ap (λ x. x.text) (nodes_of-at es n b)
 
-  pub IsForest-built : (log : List Item) → IsForest (record { text = text; nodes = nodes_of es; log = log })
-  IsForest-built log = record {
+  pub IsForest-built : IsForest (bare text (nodes_of es))
+  IsForest-built = record {
     sound = s;
     some = omega (arith, h.some, nodes_of-length es);
     root = ap kind_of (text_is 0 h.some) ∙ h.root;
@@ -45,4 +47,8 @@ module _ (text : List ℕ) (es : List NodeAt) (h : IsNodeList text es) (s : IsSo
         let i : Some (entry_at es n).span ≡ Some span = sym (ap (λ x. x.span) (nodes_of-at es n b)) ∙ e in
         let j : (entry_at es n).span ≡ span = cc in
         subst (IsSpanOf text) j (h.spans n b);
+    cursors = λ serial. tt;
   }
+
+  pub IsStored-built : (seats : List (Option Seat)) → seats ≡ [] → IsStored text (nodes_of es) seats
+  IsStored-built seats e = subst (IsStored text (nodes_of es)) (sym e) (record { forest = IsForest-built; seats_in = λ serial. tt })

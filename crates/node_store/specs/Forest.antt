@@ -1,5 +1,5 @@
--- A forest: the source text, the nodes by number, and the log; and what reading it answers.
-use Rattle.std.specs.Prelude.{◌≡◌, ◌≢◌, ℕ, ◌<◌, ◌≤◌, List, Bool, false, nat_lt, length, Option, Some, None, IsSome, is_some, Result, Ok, Err, if◌then◌else◌, encode_utf8_all}
+-- A forest: the source text, the nodes by number, the open cursors, and the log; and what reading it answers.
+use Rattle.std.specs.Prelude.{◌≡◌, ◌≢◌, ℕ, ◌<◌, ◌≤◌, List, Bool, false, nat_lt, length, Option, Some, None, IsSome, is_some, Result, Ok, Err, if◌then◌else◌, encode_utf8_all, slice_index_or}
 use Rattle.std.specs.Str.{IsCharBoundary}
 use Rattle.css_text.specs.declared.lexer.Span.{Span}
 use Rattle.css_tree.specs.declared.node.Kind.TheVariants as K
@@ -10,15 +10,32 @@ use Rattle.css_tree.specs.Tree.{Tree}
 use Rattle.node_store.specs.declared.fault.TreeFault.{TreeFault}
 use Rattle.node_store.specs.declared.fault.TreeFault.TheVariants.{NoSuchNode, WrongKind}
 use Rattle.node_store.specs.declared.item.Item.{Item}
-use Rattle.node_store.specs.Nodes.{Node, node_at, text_of, span_of, parent_of}
-use Rattle.node_store.specs.Sound.{IsSound}
-use Rattle.node_store.specs.NumberTrees.{tree_at}
+use Rattle.node_rows.specs.Nodes.{Node, node_at, text_of, span_of, parent_of, children_of}
+use Rattle.node_rows.specs.Sound.{IsSound}
+use Rattle.node_rows.specs.NumberTrees.{tree_at}
 
--- the characters of the source, the nodes by number, and the log
+-- an open cursor: its container, and how many of the children are passed
+pub record Place : Type 0 where
+  pub container : ℕ
+  pub passed : ℕ
+
+-- The characters of the source, the nodes by number, the open cursors by serial, and the log. Beside these: how many
+-- items the log can take without memory, and the container for which a place is kept.
 pub record Forest : Type 0 where
   pub text : List ℕ
   pub nodes : List Node
+  pub cursors : List (Option Place)
   pub log : List Item
+  pub spare : ℕ
+  pub room : Option ℕ
+
+-- the open cursor of a serial
+abbrev pub cursor_at : List (Option Place) → ℕ → Option Place
+cursor_at cs serial = slice_index_or cs serial None
+
+-- the forest with nothing reserved
+abbrev pub unreserved : Forest → Forest
+unreserved f = record f { spare = 0; room = None }
 
 -- the plain tree of the root
 abbrev pub tree_of : Forest → Tree
@@ -54,8 +71,13 @@ pub record IsSpanOf (text : List ℕ) (span : Span) : Type 0 where
   pub start : IsCharBoundary (encode_utf8_all text) span.start
   pub end : IsCharBoundary (encode_utf8_all text) span.end
 
--- What is true of every forest: node 0 is the root and no other node is one, parents are containers, and spans
--- are spans of the text.
+-- the cursor, if it is one, stands in a container and has passed no more than its children
+abbrev pub IsWithin : List Node → Option Place → Type 0
+IsWithin ns None = Unit {0}
+IsWithin ns (Some c) = (c.container < length ns) × IsSome (block_of (text_of ns c.container)) × (c.passed ≤ length (children_of ns c.container))
+
+-- What is true of every forest: node 0 is the root and no other node is one, parents are containers, spans are spans of
+-- the text, and cursors stand in containers.
 pub record IsForest (f : Forest) : Type 0 where
   pub sound : IsSound f.nodes
   pub some : 0 < length f.nodes
@@ -63,3 +85,4 @@ pub record IsForest (f : Forest) : Type 0 where
   pub others : (n : ℕ) → 0 < n → n < length f.nodes → kind_of (text_of f.nodes n) ≢ K.Root
   pub containers : (n p : ℕ) → parent_of f.nodes n ≡ Some p → IsSome (block_of (text_of f.nodes p))
   pub spans : (n : ℕ) (span : Span) → span_of f.nodes n ≡ Some span → IsSpanOf f.text span
+  pub cursors : (serial : ℕ) → IsWithin f.nodes (cursor_at f.cursors serial)

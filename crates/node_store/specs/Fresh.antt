@@ -1,9 +1,9 @@
 -- The forest of a reading's nodes in document order.
-use Rattle.std.specs.Prelude.{◌≡◌, ℕ, List, map, Option, Some}
+use Rattle.std.specs.Prelude.{◌≡◌, List, map, Some}
 use Rattle.css_tree.specs.Tree.{Tree}
 use Rattle.css_tree.specs.Reads.{Reads}
 use Rattle.css_tree.specs.Numbered.{Numbered, numbered}
-use Rattle.node_store.specs.declared.node_list.NodeAt.{NodeAt}
+use Rattle.node_rows.specs.declared.node_list.NodeAt.{NodeAt}
 use Rattle.node_store.specs.NodeList.{forest_of}
 use Rattle.node_store.specs.Forest.{Forest, IsForest, tree_of}
 

@@ -1,11 +1,21 @@
 // A style sheet's nodes by number: one tree, the loose trees, the text that they were read from, and the log.
 #![tactic(auto)]
 
+pub mod copies;
+pub mod copying;
+pub mod cursors;
+pub mod edits;
 pub mod fault;
+pub mod fields;
+pub mod frame;
 pub mod id;
 pub mod item;
 pub mod laws;
-pub mod node_list;
+pub mod log;
 pub mod parts;
-mod rows;
+pub mod seat;
+#[cfg(test)]
+mod tests;
+#[cfg(test)]
+mod trees;
 pub mod work;

@@ -1,41 +1,48 @@
 // The store of a style sheet's nodes.
 ghost use Rattle.std.specs.Prelude.{◌≡◌, ℕ, ◌<◌, ◌≤◌, length, slice_get, Option, Some, None, Ok, Err, IfOk, MatchResult, MatchOption};
 ghost use Rattle.std.specs.Str.{chars};
-ghost use Rattle.css_tree.specs.declared.node.Field.TheVariants as F;
 ghost use Rattle.css_tree.specs.Parts.{kind_of, field_of, source_of, important_of, raw_of};
-ghost use Rattle.node_store.specs.Nodes.{Node, text_of, holds, next_sibling_of};
+ghost use Rattle.node_rows.specs.Nodes.{Node, text_of, parent_of, place_of, holds, next_sibling_of, previous_sibling_of};
+ghost use Rattle.std.specs.Option.{option_map};
 ghost use Rattle.node_store.specs.Forest.{Forest, IsForest, read, read_some, bom_of, has_block};
 ghost use Rattle.node_store.specs.NodeList.{IsNodeList, forest_of};
 
 use crate::fault::TreeFault;
 use crate::id::NodeId;
 use crate::item::Item;
-use crate::node_list::NodeAt;
 use crate::parts;
-use crate::rows::Rows;
+use crate::seat::Seat;
 use css_text::lexer::Span;
 use css_text::text::Text;
 use css_tree::node::{Field, Kind, NodeText, Raw};
+use node_rows::node_list::NodeAt;
+use node_rows::rows::Rows;
 use std::alloc::{AllocError, Global};
 use std::marker::Model;
 
-/// A style sheet's tree, trees beside it that are loose, the source text, and the log.
+/// A style sheet's tree, trees beside it that are loose, the source text, the open cursors, and the log.
 #[derive(Drop)]
 pub struct Work {
-    alloc: Global,
-    text: Text,
-    rows: Rows,
-    log: Vec<Item>,
+    pub(crate) alloc: Global,
+    pub(crate) text: Text,
+    pub(crate) rows: Rows,
+    pub(crate) seats: Vec<Option<Seat>>,
+    pub(crate) log: Vec<Item>,
+    pub(crate) room: Option<u32>,
 }
 
 impl Model for Work {
-    ghost use Rattle.node_store.specs.Forest.{Forest, IsForest};
+    ghost use Rattle.std.specs.Prelude.{◌-◌, vec_len};
+    ghost use Rattle.std.specs.Vec.{vec_capacity};
+    ghost use Rattle.node_store.specs.Forest.{Forest};
 
     ghost Value = { Forest };
 
-    ghost view = { λ w. record { text = w.text; nodes = w.rows; log = w.log.items } };
+    ghost use Rattle.node_store.specs.Seats.{shown_seats, IsStored};
 
-    ghost invariant = { λ w. IsForest (record { text = w.text; nodes = w.rows; log = w.log.items }) };
+    ghost view = { λ w. record { text = w.text; nodes = w.rows; cursors = shown_seats w.rows w.seats.items; log = w.log.items; spare = vec_capacity w.log - vec_len w.log; room = w.room } };
+
+    ghost invariant = { λ w. IsStored w.text w.rows w.seats.items };
 }
 
 fn id_of(number: Option<u32>) -> Option<NodeId>
@@ -61,7 +68,9 @@ impl Work {
             alloc,
             text,
             rows,
+            seats: Vec::new(alloc),
             log: Vec::new(alloc),
+            room: None,
         })
     }
 
@@ -109,7 +118,7 @@ impl Work {
     }
 
     // The number as the rows know it, where it was given out.
-    fn given(&self, n: NodeId) -> Option<u32>
+    pub(crate) fn given(&self, n: NodeId) -> Option<u32>
         ensures { MatchOption result (length self.now.nodes ≤ n) (λ m. (m ≡ n) × (n < length self.now.nodes)) }
     {
         if (n.number() as usize) < self.rows.len() {
@@ -202,116 +211,35 @@ impl Work {
         }
     }
 
-    fn field(&self, n: NodeId, field: Field) -> Result<&str, TreeFault>
-        ensures { MatchResult result (λ s. read_some self.now n (field_of field) ≡ Ok (chars s.now)) (λ e. read_some self.now n (field_of field) ≡ Err e) }
+    /// The sibling before the node; none for the first child, the root and the top of a loose tree.
+    pub fn previous_sibling(&self, n: NodeId) -> Result<Option<NodeId>, TreeFault>
+        ensures { result ≡ read self.now n (λ _. previous_sibling_of self.now.nodes n) }
     {
         match self.given(n) {
-            Some(m) => match parts::field(self.rows.text(m), field) {
-                Some(text) => Ok(text),
-                None => Err(TreeFault::WrongKind),
-            },
+            Some(m) => Ok(id_of(self.rows.previous_sibling(m))),
             None => Err(TreeFault::NoSuchNode),
         }
     }
 
-    fn source(&self, n: NodeId, field: Field) -> Result<&str, TreeFault>
-        ensures { MatchResult result (λ s. read_some self.now n (source_of field) ≡ Ok (chars s.now)) (λ e. read_some self.now n (source_of field) ≡ Err e) }
+    /// How many children of its parent stand before the node, which it walks back over; none for the root and for the
+    /// top of a loose tree.
+    pub fn place(&self, n: NodeId) -> Result<Option<u32>, TreeFault>
+        ensures { result ≡ read self.now n (λ x. option_map (λ p. place_of self.now.nodes p n) x.parent) }
     {
         match self.given(n) {
-            Some(m) => match parts::source(self.rows.text(m), field) {
-                Some(text) => Ok(text),
-                None => Err(TreeFault::WrongKind),
-            },
+            Some(m) => Ok(self.place_in_parent(m)),
             None => Err(TreeFault::NoSuchNode),
         }
     }
 
-    /// A declaration's property. Refused as WrongKind where the node isn't a declaration.
-    pub fn prop(&self, n: NodeId) -> Result<&str, TreeFault>
-        ensures { MatchResult result (λ s. read_some self.now n (field_of F.Prop) ≡ Ok (chars s.now)) (λ e. read_some self.now n (field_of F.Prop) ≡ Err e) }
+    fn place_in_parent(&self, n: u32) -> Option<u32>
+        requires { n < length self.now.nodes }
+        ensures { result ≡ option_map (λ p. place_of self.now.nodes p n) (parent_of self.now.nodes n) }
     {
-        self.field(n, Field::Prop)
-    }
-
-    /// A declaration's value without its comments. Refused as WrongKind where the node isn't a declaration.
-    pub fn value(&self, n: NodeId) -> Result<&str, TreeFault>
-        ensures { MatchResult result (λ s. read_some self.now n (field_of F.Value) ≡ Ok (chars s.now)) (λ e. read_some self.now n (field_of F.Value) ≡ Err e) }
-    {
-        self.field(n, Field::Value)
-    }
-
-    /// A declaration's value as it was written. Refused as WrongKind where the node isn't a declaration.
-    pub fn value_source(&self, n: NodeId) -> Result<&str, TreeFault>
-        ensures { MatchResult result (λ s. read_some self.now n (source_of F.Value) ≡ Ok (chars s.now)) (λ e. read_some self.now n (source_of F.Value) ≡ Err e) }
-    {
-        self.source(n, Field::Value)
-    }
-
-    /// A rule's selector without its comments. Refused as WrongKind where the node isn't a rule.
-    pub fn selector(&self, n: NodeId) -> Result<&str, TreeFault>
-        ensures { MatchResult result (λ s. read_some self.now n (field_of F.Selector) ≡ Ok (chars s.now)) (λ e. read_some self.now n (field_of F.Selector) ≡ Err e) }
-    {
-        self.field(n, Field::Selector)
-    }
-
-    /// A rule's selector as it was written. Refused as WrongKind where the node isn't a rule.
-    pub fn selector_source(&self, n: NodeId) -> Result<&str, TreeFault>
-        ensures { MatchResult result (λ s. read_some self.now n (source_of F.Selector) ≡ Ok (chars s.now)) (λ e. read_some self.now n (source_of F.Selector) ≡ Err e) }
-    {
-        self.source(n, Field::Selector)
-    }
-
-    /// An at-rule's name, without the `@`. Refused as WrongKind where the node isn't an at-rule.
-    pub fn name(&self, n: NodeId) -> Result<&str, TreeFault>
-        ensures { MatchResult result (λ s. read_some self.now n (field_of F.Name) ≡ Ok (chars s.now)) (λ e. read_some self.now n (field_of F.Name) ≡ Err e) }
-    {
-        self.field(n, Field::Name)
-    }
-
-    /// An at-rule's parameters without their comments. Refused as WrongKind where the node isn't an at-rule.
-    pub fn params(&self, n: NodeId) -> Result<&str, TreeFault>
-        ensures { MatchResult result (λ s. read_some self.now n (field_of F.Params) ≡ Ok (chars s.now)) (λ e. read_some self.now n (field_of F.Params) ≡ Err e) }
-    {
-        self.field(n, Field::Params)
-    }
-
-    /// An at-rule's parameters as they were written. Refused as WrongKind where the node isn't an at-rule.
-    pub fn params_source(&self, n: NodeId) -> Result<&str, TreeFault>
-        ensures { MatchResult result (λ s. read_some self.now n (source_of F.Params) ≡ Ok (chars s.now)) (λ e. read_some self.now n (source_of F.Params) ≡ Err e) }
-    {
-        self.source(n, Field::Params)
-    }
-
-    /// A comment's text without the white space at its ends. Refused as WrongKind where the node isn't a comment.
-    pub fn comment_text(&self, n: NodeId) -> Result<&str, TreeFault>
-        ensures { MatchResult result (λ s. read_some self.now n (field_of F.Text) ≡ Ok (chars s.now)) (λ e. read_some self.now n (field_of F.Text) ≡ Err e) }
-    {
-        self.field(n, Field::Text)
-    }
-
-    /// Whether a declaration is marked important. Refused as WrongKind where the node isn't a declaration.
-    pub fn important(&self, n: NodeId) -> Result<bool, TreeFault>
-        ensures { result ≡ read_some self.now n important_of }
-    {
-        match self.given(n) {
-            Some(m) => match parts::important(self.rows.text(m)) {
-                Some(flag) => Ok(flag),
-                None => Err(TreeFault::WrongKind),
-            },
-            None => Err(TreeFault::NoSuchNode),
-        }
-    }
-
-    /// A raw; none where it is absent. A container's semicolon is `;` or the empty text. Refused as WrongKind where
-    /// the node's kind has no such raw.
-    pub fn raw(&self, n: NodeId, raw: Raw) -> Result<Option<&str>, TreeFault>
-        ensures { MatchResult result
-            (λ o. MatchOption o (read_some self.now n (raw_of raw) ≡ Ok None) (λ s. read_some self.now n (raw_of raw) ≡ Ok (Some (chars s.now))))
-            (λ e. read_some self.now n (raw_of raw) ≡ Err e) }
-    {
-        match self.given(n) {
-            Some(m) => parts::raw(self.rows.text(m), raw),
-            None => Err(TreeFault::NoSuchNode),
+        self.rows.facts();
+        match self.rows.parent(n) {
+            Some(parent) => Some(self.rows.place(parent, n) as u32),
+            None => None,
         }
     }
 
@@ -343,5 +271,14 @@ impl Work {
             Some(m) => Ok(self.rows.is_below_root(m)),
             None => Err(TreeFault::NoSuchNode),
         }
+    }
+
+    /// Whether the node is `top` or stands below it. Both were given out.
+    pub fn holds(&self, top: NodeId, n: NodeId) -> bool
+        requires top_given { top < length self.now.nodes }
+        requires given { n < length self.now.nodes }
+        ensures { result ≡ holds self.now.nodes top n }
+    {
+        self.rows.holds(top.number(), n.number())
     }
 }

@@ -1,11 +1,11 @@
 -- The trees below a node, one child after another.
 use Rattle.std.proofs.Common.{◌≡◌, ℕ, ◌<◌, List, length, Some, None, ap, ◌∙◌, slice_get}
-use Rattle.node_store.specs.Nodes.{Node, parent_of, children_of, siblings, next_sibling_of}
-use Rattle.node_store.specs.Sound.{IsSound}
-use Rattle.node_store.specs.NumberTrees.{no_trees, tree, number_trees, below}
-use Rattle.node_store.proofs.Behind.{first-some, first-none, sibling-some, sibling-none}
-use Rattle.node_store.proofs.Edits.{parent-inside}
-use Rattle.node_store.proofs.Levels.{number_trees-more, number_trees-none}
+use Rattle.node_rows.specs.Nodes.{Node, parent_of, children_of, siblings, next_sibling_of}
+use Rattle.node_rows.specs.Sound.{IsSound}
+use Rattle.node_rows.specs.NumberTrees.{no_trees, tree, number_trees, below}
+use Rattle.node_rows.proofs.Behind.{first-some, first-none, sibling-some, sibling-none}
+use Rattle.node_rows.proofs.Edits.{parent-inside}
+use Rattle.node_rows.proofs.Levels.{number_trees-more, number_trees-none}
 
 module _ (ns : List Node) (s : IsSound ns) where
   pub first-inside : (p c : ℕ) → slice_get (children_of ns p) 0 ≡ Some c → c < length ns

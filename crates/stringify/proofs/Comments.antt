@@ -2,11 +2,11 @@
 use Rattle.std.proofs.Common.{◌≡◌, ℕ, ◌<◌, List, [], ◌∷◌, Bool, true, false, length, Option, Some, None, ap, sym, ◌∙◌, cond, arith}
 use Rattle.css_tree.specs.Parts.{semicolon_text}
 use Rattle.css_tree.specs.Print.{Container, is_comment, are_comments, takes_semicolon, semicolon_after}
-use Rattle.node_store.specs.Nodes.{Node, text_of, siblings, next_sibling_of, from_number}
-use Rattle.node_store.specs.Sound.{IsSound}
-use Rattle.node_store.specs.NumberTrees.{plain, number_trees, tree, below}
-use Rattle.node_store.proofs.Behind.{from-next}
-use Rattle.node_store.proofs.Levels.{number_trees-more, number_trees-none}
+use Rattle.node_rows.specs.Nodes.{Node, text_of, siblings, next_sibling_of, from_number}
+use Rattle.node_rows.specs.Sound.{IsSound}
+use Rattle.node_rows.specs.NumberTrees.{plain, number_trees, tree, below}
+use Rattle.node_rows.proofs.Behind.{from-next}
+use Rattle.node_rows.proofs.Levels.{number_trees-more, number_trees-none}
 use Rattle.stringify.specs.Sheet.{size}
 
 module _ (ns : List Node) (s : IsSound ns) where

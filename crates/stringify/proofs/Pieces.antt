@@ -7,8 +7,8 @@ use Rattle.std.proofs.lemmas.List.Sums.{sum_by-append}
 use Rattle.css_text.specs.Ahead.{byte_len}
 use Rattle.css_tree.specs.Parts.{before_of}
 use Rattle.css_tree.specs.Print.{Container, container_of, before_text, opening, closing, semicolon_after, print_children, body, starts_children, starts_below}
-use Rattle.node_store.specs.Nodes.{Node, text_of, depth_of, parent_of}
-use Rattle.node_store.specs.NumberTrees.{NumberTrees, no_trees, tree, numbers, plain, below, tree_at}
+use Rattle.node_rows.specs.Nodes.{Node, text_of, depth_of, parent_of}
+use Rattle.node_rows.specs.NumberTrees.{NumberTrees, no_trees, tree, numbers, plain, below, tree_at}
 use Rattle.stringify.specs.declared.printed.Start.{Start}
 use Rattle.stringify.specs.Sheet.{Sheet, put, begin, start_of, begun, printed, container_at, ended, semicolon_of, semicolon_in, with_body}
 use Rattle.stringify.proofs.Puts.{sheet}

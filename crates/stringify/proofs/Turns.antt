@@ -7,12 +7,12 @@ use Rattle.css_tree.specs.declared.node.NodeText.{NodeText}
 use Rattle.css_tree.specs.declared.node.NodeText.TheVariants.{Root, AtRule, Rule, Declaration, Comment}
 use Rattle.css_tree.specs.Parts.{kind_of}
 use Rattle.css_tree.specs.Print.{container_of, depth_below, closing, semicolon_after, opening}
-use Rattle.node_store.specs.Nodes.{Node, text_of, parent_of, children_of, depth_of, path, holds, siblings, next_sibling_of}
-use Rattle.node_store.specs.NumberTrees.{tree, number_trees, plain, below}
+use Rattle.node_rows.specs.Nodes.{Node, text_of, parent_of, children_of, depth_of, path, holds, siblings, next_sibling_of}
+use Rattle.node_rows.specs.NumberTrees.{tree, number_trees, plain, below}
 use Rattle.node_store.specs.Forest.{Forest, IsForest}
-use Rattle.node_store.proofs.Behind.{depth-step, depth-top, depth-few, below-top, held-below, held-above, first-some, sibling-some}
-use Rattle.node_store.proofs.Climb.{path-step}
-use Rattle.node_store.proofs.Edits.{parent-inside}
+use Rattle.node_rows.proofs.Behind.{depth-step, depth-top, depth-few, below-top, held-below, held-above, first-some, sibling-some}
+use Rattle.node_rows.proofs.Climb.{path-step}
+use Rattle.node_rows.proofs.Edits.{parent-inside}
 use Rattle.stringify.specs.declared.steps.Step.{Step}
 use Rattle.stringify.specs.Sheet.{Sheet, put, begin, container_at, begun, printed, semicolon_in, semicolon_of, ended, behind_in, beyond_on, beyond, onward, with_body, size, to_go_on}
 use Rattle.stringify.specs.Follows.{remaining, to_go, IsStep, Follows}

@@ -5,8 +5,8 @@ use Rattle.css_text.specs.declared.stop.Stop.TheVariants.{Fault, Memory}
 use Rattle.css_tree.specs.Print.{body, starts_below}
 use Rattle.node_store.specs.declared.fault.TreeFault.{TreeFault}
 use Rattle.node_store.specs.declared.fault.TreeFault.TheVariants.{NoSuchNode}
-use Rattle.node_store.specs.Nodes.{Node, depth_of}
-use Rattle.node_store.specs.NumberTrees.{tree_at, numbers_below}
+use Rattle.node_rows.specs.Nodes.{Node, depth_of}
+use Rattle.node_rows.specs.NumberTrees.{tree_at, numbers_below}
 use Rattle.node_store.specs.Forest.{Forest, is_given}
 use Rattle.stringify.specs.declared.printed.Printed.{Printed}
 

@@ -1,7 +1,7 @@
 -- What a step of the printing leaves to be printed.
 use Rattle.std.specs.Prelude.{◌≡◌, ℕ, ◌+◌, ◌*◌, ◌<◌, List, true, length, Option, Some, None, if◌then◌else◌}
-use Rattle.node_store.specs.Nodes.{Node, path, holds, depth_of}
-use Rattle.node_store.specs.NumberTrees.{below}
+use Rattle.node_rows.specs.Nodes.{Node, path, holds, depth_of}
+use Rattle.node_rows.specs.NumberTrees.{below}
 use Rattle.stringify.specs.declared.steps.Step.{Step}
 use Rattle.stringify.specs.Sheet.{Sheet, onward, beyond, size, to_go_on}
 

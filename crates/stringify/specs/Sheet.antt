@@ -3,8 +3,8 @@ use Rattle.std.specs.Prelude.{ℕ, ◌+◌, ◌*◌, List, [], ◌∷◌, ◌++�
 use Rattle.css_text.specs.Ahead.{byte_len}
 use Rattle.css_tree.specs.Parts.{before_of}
 use Rattle.css_tree.specs.Print.{Container, container_of, before_text, opening, closing, semicolon_after}
-use Rattle.node_store.specs.Nodes.{Node, text_of, parent_of, depth_of, path, siblings}
-use Rattle.node_store.specs.NumberTrees.{NumberTrees, no_trees, tree, number_trees, plain, below}
+use Rattle.node_rows.specs.Nodes.{Node, text_of, parent_of, depth_of, path, siblings}
+use Rattle.node_rows.specs.NumberTrees.{NumberTrees, no_trees, tree, number_trees, plain, below}
 use Rattle.stringify.specs.declared.printed.Start.{Start}
 
 -- the characters, and the starts of the nodes

@@ -3,8 +3,8 @@ ghost use Rattle.std.specs.Prelude.{◌≡◌, ◌<◌, ◌^◌, length, OnOk, S
 ghost use Rattle.std.specs.Str.{chars};
 ghost use Rattle.css_tree.specs.Parts.{before_of};
 ghost use Rattle.css_tree.specs.Print.{before_text, like_first, before_first};
-ghost use Rattle.node_store.specs.Nodes.{text_of};
-ghost use Rattle.node_store.specs.NumberTrees.{plain, below};
+ghost use Rattle.node_rows.specs.Nodes.{text_of};
+ghost use Rattle.node_rows.specs.NumberTrees.{plain, below};
 ghost use Rattle.stringify.specs.Sheet.{put, container_at, begun};
 
 use crate::body::write_opening;

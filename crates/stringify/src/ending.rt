@@ -1,8 +1,8 @@
 // The end of a node's body, and the `;` behind it.
 ghost use Rattle.std.specs.Prelude.{◌≡◌, ◌<◌, ◌^◌, ◌∷◌, [], length, OnOk, Some, None, if◌then◌else◌};
 ghost use Rattle.css_tree.specs.Print.{closing, closed_block, after_text, takes_semicolon, semicolon_after};
-ghost use Rattle.node_store.specs.Nodes.{text_of, parent_of, depth_of, siblings};
-ghost use Rattle.node_store.specs.NumberTrees.{plain, below, number_trees};
+ghost use Rattle.node_rows.specs.Nodes.{text_of, parent_of, depth_of, siblings};
+ghost use Rattle.node_rows.specs.NumberTrees.{plain, below, number_trees};
 ghost use Rattle.stringify.specs.Sheet.{put, ended, container_at, semicolon_of};
 
 use crate::output::Output;

@@ -3,14 +3,14 @@ ghost use Rattle.std.specs.Prelude.{◌≡◌, ◌≢◌, [], true, nat_eq, IfOk
 ghost use Rattle.css_tree.specs.declared.node.Kind.TheVariants as K;
 ghost use Rattle.css_tree.specs.Parts.{kind_of, block_of};
 ghost use Rattle.std.specs.List.{list_any};
-ghost use Rattle.node_store.specs.NodeList.{parents_in, last_path};
+ghost use Rattle.node_rows.specs.NodeList.{parents_in, last_path};
 
 use css_text::lexer::Span;
 use css_text::stop::Stop;
 use css_text::text::Text;
 use css_text::txt::Txt;
 use css_tree::node::{Block, Kind, NodeText, Source};
-use node_store::node_list::NodeAt;
+use node_rows::node_list::NodeAt;
 use node_store::parts;
 use node_store::work::Work;
 use std::alloc::{AllocError, Global};
@@ -23,7 +23,7 @@ pub struct Entries {
 
 impl Model for Entries {
     ghost use Rattle.std.specs.Prelude.{List, []};
-    ghost use Rattle.node_store.specs.declared.node_list.NodeAt.{NodeAt};
+    ghost use Rattle.node_rows.specs.declared.node_list.NodeAt.{NodeAt};
     ghost use Rattle.node_store.specs.NodeList.{IsNodeList};
 
     ghost Value = { List NodeAt };

@@ -1,7 +1,7 @@
 // The printing of a tree, and of one node.
 ghost use Rattle.std.specs.Prelude.{◌≡◌, ℕ, map, length, ◌<◌, IfOk, OnOk};
 ghost use Rattle.css_tree.specs.Print.{print, starts};
-ghost use Rattle.node_store.specs.NumberTrees.{tree_at, numbers_below};
+ghost use Rattle.node_rows.specs.NumberTrees.{tree_at, numbers_below};
 ghost use Rattle.node_store.specs.Forest.{tree_of};
 ghost use Rattle.stringify.specs.Answers.{IsNodeAnswer};
 

@@ -1,8 +1,8 @@
 // Reading a node whose number was given out.
 ghost use Rattle.std.specs.Prelude.{◌≡◌, ◌<◌, length, slice_get, nat_lt, if◌then◌else◌};
-ghost use Rattle.node_store.specs.Nodes.{text_of, parent_of, children_of, next_sibling_of, depth_of, from_number, IsGiven};
+ghost use Rattle.node_rows.specs.Nodes.{text_of, parent_of, children_of, next_sibling_of, depth_of, from_number, IsGiven};
 ghost use Rattle.css_tree.specs.Print.{are_comments, is_comment};
-ghost use Rattle.node_store.specs.NumberTrees.{plain, number_trees};
+ghost use Rattle.node_rows.specs.NumberTrees.{plain, number_trees};
 
 use css_tree::node::NodeText;
 use node_store::id::NodeId;

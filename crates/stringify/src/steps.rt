@@ -1,7 +1,7 @@
 // The printing of a node with all nodes below it, step by step from node to node in document order.
 ghost use Rattle.std.specs.Prelude.{◌≡◌, ◌<◌, ◌^◌, ◌≢◌, true, false, length, OnOk, IfOk, Some, if◌then◌else◌, nat_eq};
 ghost use Rattle.css_tree.specs.Print.{opening};
-ghost use Rattle.node_store.specs.Nodes.{text_of, parent_of, depth_of};
+ghost use Rattle.node_rows.specs.Nodes.{text_of, parent_of, depth_of};
 ghost use Rattle.stringify.specs.Sheet.{put, begin, with_body, container_at};
 ghost use Rattle.stringify.specs.Follows.{Follows, IsStep};
 

@@ -1,13 +1,13 @@
 // How far each form of a part reaches, on the bytes of a value.
 ghost use Rattle.std.specs.Prelude.{◌≡◌, ◌+◌, ◌≤◌, ◌<◌, false, drop, length};
-ghost use Rattle.css_text.specs.Forms.{unit_end as unit_end_of};
 ghost use Rattle.css_text.specs.ValueParts.{ends_value as ends_value_of, value_len};
 ghost use Rattle.value_parse.specs.Tree.{form_of};
 ghost use Rattle.value_parse.specs.Found.{first_at};
 
 use crate::part::ValueKind;
 use css_text::scan::{
-    begins_comment, begins_url, is_quote, is_single, is_space, spaces_end, through, through_comment,
+    begins_comment, begins_url, is_quote, is_single, is_space, spaces_end, through,
+    through_comment, unit_end,
 };
 
 /// White space, a quote, a parenthesis or one of `, / : ; [ ] { }`: what no Word goes over.
@@ -16,21 +16,6 @@ fn ends_value(b: u8) -> bool
     ensures { result ≡ ends_value_of b }
 {
     is_space(b) || is_quote(b) || is_single(b) || b == b'/'
-}
-
-/// Where the character or the escape at the index ends.
-#[tactic(auto, unfolding(css_text::specs::Forms::unit_end))]
-fn unit_end(s: &[u8], at: usize) -> usize
-    requires { at < length s.now }
-    ensures within { result ≤ length s.now }
-    ensures longer { at < result }
-    ensures value { result ≡ unit_end_of s.now at }
-{
-    if s[at] == b'\\' && at + 1 < s.len() {
-        at + 2
-    } else {
-        at + 1
-    }
 }
 
 /// Where the Word from `from` on ends.

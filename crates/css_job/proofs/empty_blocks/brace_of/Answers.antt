@@ -2,8 +2,8 @@ use Rattle.std.proofs.Common.{◌∙◌, ◌+◌, sym, ap, arith, subst}
 use Rattle.std.specs.Prelude.{encode_utf8_all}
 use Rattle.std.specs.Str.{IsCharBoundary}
 use Rattle.css_text.specs.Ahead.{byte_len}
-use Rattle.node_store.specs.Nodes.{text_of, span_of}
-use Rattle.node_store.specs.NumberTrees.{plain, below}
+use Rattle.node_rows.specs.Nodes.{text_of, span_of}
+use Rattle.node_rows.specs.NumberTrees.{plain, below}
 use Rattle.css_job.specs.Warnings.{before_brace}
 use Rattle.css_job.proofs.Brace.{brace_few, brace_boundary, start_is}
 use Rattle.css_job.proofs.empty_blocks.brace_of.Goals as goal

@@ -1,6 +1,6 @@
 use Rattle.std.proofs.Common.{◌∙◌, ◌++◌, sym, ap, subst, map}
 use Rattle.std.specs.List.{flat_map}
-use Rattle.node_store.specs.NumberTrees.{below}
+use Rattle.node_rows.specs.NumberTrees.{below}
 use Rattle.css_job.specs.Shown.{warning_seen}
 use Rattle.css_job.specs.Walk.{found, from, onward, EachStands}
 use Rattle.css_job.proofs.Stand.{stand, found_all, onward_root}

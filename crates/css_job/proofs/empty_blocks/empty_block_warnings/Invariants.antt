@@ -1,7 +1,7 @@
 use Rattle.std.proofs.Common.{◌≡◌, ◌++◌, length, map}
 use Rattle.std.specs.Prelude.{Ok}
 use Rattle.std.specs.List.{flat_map}
-use Rattle.node_store.specs.Nodes.{IsGiven}
+use Rattle.node_rows.specs.Nodes.{IsGiven}
 use Rattle.node_store.specs.Forest.{tree_of}
 use Rattle.css_job.specs.Warnings.{warnings}
 use Rattle.css_job.specs.Shown.{warning_seen}

@@ -1,6 +1,6 @@
 use Rattle.std.proofs.Common.{◌∙◌, sym, ap}
 use Rattle.css_tree.specs.Tree.{none}
-use Rattle.node_store.specs.Nodes.{text_of}
+use Rattle.node_rows.specs.Nodes.{text_of}
 use Rattle.css_job.specs.Warnings.{is_empty_block}
 use Rattle.css_job.proofs.Empty.{with_child, without_child}
 use Rattle.css_job.proofs.empty_blocks.is_empty_block.Goals as goal

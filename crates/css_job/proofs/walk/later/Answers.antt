@@ -1,6 +1,6 @@
 use Rattle.std.proofs.Common.{◌∙◌, sym, subst}
-use Rattle.node_store.specs.Nodes.{IsGiven}
-use Rattle.node_store.proofs.Behind.{next-given}
+use Rattle.node_rows.specs.Nodes.{IsGiven}
+use Rattle.node_rows.proofs.Behind.{next-given}
 use Rattle.css_job.proofs.Walking.{to_sibling, to_parent, at_top, shorter}
 use Rattle.css_job.proofs.walk.later.Goals as goal
 

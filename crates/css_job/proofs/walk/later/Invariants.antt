@@ -1,5 +1,5 @@
 use Rattle.std.proofs.Common.{◌≡◌, ◌<◌, length}
-use Rattle.node_store.specs.Nodes.{path}
+use Rattle.node_rows.specs.Nodes.{path}
 use Rattle.css_job.specs.Walk.{later}
 use Rattle.css_job.proofs.walk.later.Given as goal
 

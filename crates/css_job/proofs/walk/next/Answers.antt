@@ -1,6 +1,6 @@
 use Rattle.std.proofs.Common.{◌∙◌, sym}
-use Rattle.node_store.proofs.Behind.{first-some}
-use Rattle.node_store.proofs.Edits.{parent-inside}
+use Rattle.node_rows.proofs.Behind.{first-some}
+use Rattle.node_rows.proofs.Edits.{parent-inside}
 use Rattle.css_job.proofs.Walking.{to_child, no_child}
 use Rattle.css_job.proofs.walk.next.Goals as goal
 

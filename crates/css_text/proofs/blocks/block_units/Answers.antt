@@ -12,9 +12,9 @@ loop-at-preserved c =
     let n = c.loop-at.units + c.utf16_units-units.result in
     let grown = c.in_ok-push-2.ensures.items in
     let size = ap length grown ∙ length-append table (n ∷ []) in
-    let split = units_split bs at (at + 4096) (omega arith) in
-    let total : n ≡ sum_by byte_units (take (at + 4096) bs) = omega (arith, split, c.utf16_units-units.ensures.value, c.loop-at.invariant.2) in
-    let here : at + 4096 ≡ length table * 4096 = omega (arith, c.loop-at.invariant.1) in (
+    let split = units_split bs at (at + 256) (omega arith) in
+    let total : n ≡ sum_by byte_units (take (at + 256) bs) = omega (arith, split, c.utf16_units-units.ensures.value, c.loop-at.invariant.2) in
+    let here : at + 256 ≡ length table * 256 = omega (arith, c.loop-at.invariant.1) in (
       omega arith,
       omega (arith, size, here),
       total,

@@ -2,7 +2,7 @@ use Rattle.std.proofs.Common.{◌≡◌, ap, sym, ◌∙◌, subst, MatchOption,
 use Rattle.std.specs.Str.{chars}
 use Rattle.css_tree.specs.Parts.{before_of}
 use Rattle.css_tree.specs.Print.{before_first}
-use Rattle.node_store.specs.NumberTrees.{plain}
+use Rattle.node_rows.specs.NumberTrees.{plain}
 use Rattle.stringify.proofs.Children.{first-inside, below-some, below-none}
 use Rattle.stringify.proofs.before.first_before.Goals as goal
 

@@ -1,8 +1,8 @@
 use Rattle.std.proofs.Common.{◌≡◌, ap, sym, ◌∙◌, subst, true}
 use Rattle.css_tree.specs.Parts.{block_of, semicolon_text}
 use Rattle.css_tree.specs.Print.{is_ended, takes_semicolon}
-use Rattle.node_store.specs.Nodes.{IsGiven, text_of}
-use Rattle.node_store.proofs.Behind.{next-given}
+use Rattle.node_rows.specs.Nodes.{IsGiven, text_of}
+use Rattle.node_rows.proofs.Behind.{next-given}
 use Rattle.stringify.specs.Sheet.{container_at}
 use Rattle.stringify.proofs.Comments.{semicolon-open, semicolon-last}
 use Rattle.stringify.proofs.ending.has_semicolon.Goals as goal

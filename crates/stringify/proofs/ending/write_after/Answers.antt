@@ -1,6 +1,6 @@
 use Rattle.std.proofs.Common.{◌≡◌, [], None, OnOk, ap, sym, ◌∙◌, subst}
 use Rattle.css_tree.specs.Print.{after_text, new_line}
-use Rattle.node_store.specs.NumberTrees.{plain, below}
+use Rattle.node_rows.specs.NumberTrees.{plain, below}
 use Rattle.stringify.specs.Sheet.{put}
 use Rattle.stringify.proofs.Children.{below-some, below-none}
 use Rattle.stringify.proofs.Puts.{put-none}

@@ -1,6 +1,6 @@
 use Rattle.std.proofs.Common.{ap, ◌∙◌}
 use Rattle.css_tree.specs.Print.{print, starts, body, starts_below}
-use Rattle.node_store.specs.NumberTrees.{tree_at}
+use Rattle.node_rows.specs.NumberTrees.{tree_at}
 use Rattle.stringify.specs.Sheet.{with_body}
 use Rattle.stringify.proofs.Pieces.{body-shown, nodes_in, ats_in}
 use Rattle.stringify.proofs.Turns.{root_depth}

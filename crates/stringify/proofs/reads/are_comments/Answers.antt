@@ -1,8 +1,8 @@
 use Rattle.std.proofs.Common.{◌≡◌, ◌<◌, length, None, ap, sym, ◌∙◌, true, false, subst, arith}
 use Rattle.css_tree.specs.Print.{is_comment}
-use Rattle.node_store.specs.Nodes.{IsGiven, from_number, text_of}
-use Rattle.node_store.specs.NumberTrees.{number_trees}
-use Rattle.node_store.proofs.Behind.{next-given}
+use Rattle.node_rows.specs.Nodes.{IsGiven, from_number, text_of}
+use Rattle.node_rows.specs.NumberTrees.{number_trees}
+use Rattle.node_rows.proofs.Behind.{next-given}
 use Rattle.stringify.specs.Sheet.{size}
 use Rattle.stringify.proofs.Comments.{all_from, comment-first, other-first, fewer, all-none}
 use Rattle.stringify.proofs.reads.are_comments.Goals as goal

@@ -1,7 +1,7 @@
 use Rattle.std.proofs.Common.{◌≡◌}
 use Rattle.css_tree.specs.Print.{are_comments}
-use Rattle.node_store.specs.Nodes.{from_number, IsGiven}
-use Rattle.node_store.specs.NumberTrees.{plain, number_trees}
+use Rattle.node_rows.specs.Nodes.{from_number, IsGiven}
+use Rattle.node_rows.specs.NumberTrees.{plain, number_trees}
 use Rattle.stringify.specs.Sheet.{size}
 use Rattle.stringify.proofs.reads.are_comments.Given as goal
 

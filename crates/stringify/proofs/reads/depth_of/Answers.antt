@@ -1,6 +1,6 @@
 use Rattle.std.proofs.Common.{length, ap, sym, ◌∙◌, arith}
-use Rattle.node_store.proofs.Behind.{depth-step, depth-few}
-use Rattle.node_store.proofs.Climb.{path-step}
+use Rattle.node_rows.proofs.Behind.{depth-step, depth-few}
+use Rattle.node_rows.proofs.Climb.{path-step}
 use Rattle.stringify.proofs.reads.depth_of.Goals as goal
 
 pub overflow_add-depth : goal.overflow_add-depth

@@ -1,5 +1,5 @@
 use Rattle.std.proofs.Common.{◌≡◌, ◌+◌, ◌<◌, length}
-use Rattle.node_store.specs.Nodes.{depth_of, path}
+use Rattle.node_rows.specs.Nodes.{depth_of, path}
 use Rattle.stringify.proofs.reads.depth_of.Given as goal
 
 abbrev pub invariant-loop-parent : goal.invariant-loop-parent

@@ -1,5 +1,5 @@
 use Rattle.std.proofs.Common.{◌∙◌, ap}
-use Rattle.node_store.proofs.Behind.{held-self}
+use Rattle.node_rows.proofs.Behind.{held-self}
 use Rattle.stringify.specs.Sheet.{onward}
 use Rattle.stringify.proofs.Turns.{with_body-onward}
 use Rattle.stringify.proofs.steps.write_body.Goals as goal

@@ -1,5 +1,5 @@
 use Rattle.std.proofs.Common.{◌≡◌, ap, ◌∙◌, sym, List}
-use Rattle.node_store.specs.declared.node_list.NodeAt.{NodeAt}
+use Rattle.node_rows.specs.declared.node_list.NodeAt.{NodeAt}
 use Rattle.css_parse.specs.Machine.{alter, seal_root, done, Machine}
 use Rattle.css_parse.specs.Model.{model}
 use Rattle.css_parse.proofs.MachineSteps.{end-fault_answer, end_answer, at_end}

@@ -1,6 +1,6 @@
 use Rattle.std.proofs.Common.{◌≡◌, ◌-◌, ap, sym, ◌∙◌, eqb, arith}
 use Rattle.std.specs.List.{list_any}
-use Rattle.node_store.specs.NodeList.{parents_in, last_path}
+use Rattle.node_rows.specs.NodeList.{parents_in, last_path}
 use Rattle.node_store.proofs.Pushes.{last-on_path, parents-count}
 use Rattle.stringify.proofs.entries.Entries.last.Goals as goal
 

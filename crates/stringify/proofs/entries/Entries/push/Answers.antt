@@ -2,8 +2,9 @@ use Rattle.std.proofs.Common.{◌≡◌, ◌<◌, [], length, true, ap, sym, ◌
 use Rattle.std.specs.List.{list_any}
 use Rattle.std.proofs.lemmas.List.{get_or_read}
 use Rattle.css_tree.specs.Parts.{block_of}
-use Rattle.node_store.specs.declared.node_list.NodeAt.{NodeAt}
-use Rattle.node_store.specs.NodeList.{no_entry, parents_in, last_path, IsNodeList}
+use Rattle.node_rows.specs.declared.node_list.NodeAt.{NodeAt}
+use Rattle.node_rows.specs.NodeList.{no_entry, parents_in, last_path}
+use Rattle.node_store.specs.NodeList.{IsNodeList}
 use Rattle.node_store.proofs.Pushes.{IsNodeList-push, no_bytes}
 use Rattle.stringify.proofs.entries.Entries.push.Goals as goal
 

@@ -1,0 +1,20 @@
+use Rattle.std.proofs.Common.{◌≡◌, ◌+◌, ◌≤◌, ◌++◌, length, map, subst, sym, ap, ◌∙◌, arith}
+use Rattle.node_rows.specs.Growth.{made, row_of}
+use Rattle.node_rows.specs.Shown.{shown_rows, IsLinked}
+use Rattle.node_rows.proofs.Join.{length-shown}
+use Rattle.node_rows.proofs.Grown.{rows-grown}
+use Rattle.node_rows.proofs.rows.Rows.add_all.Goals as goal
+
+pub invariant_of-self-2 : goal.invariant_of-self-2
+invariant_of-self-2 c =
+    let rs = c.self.inside.items.items in
+    let few : length rs + length c.args.nodes.items ≤ 33554433 = let e = length-shown rs in let f = ap length c.self.view_is in omega (arith, c.requires) in
+    let e = c.in_ok-append.ensures.items ∙ ap (λ l. rs ++ l) c.in_ok-rows.ensures in
+    subst IsLinked (sym e) (rows-grown c.args.nodes.items rs c.self.invariant few).0
+
+pub returns : goal.returns
+returns c =
+    let rs = c.self.inside.items.items in
+    let few : length rs + length c.args.nodes.items ≤ 33554433 = let e = length-shown rs in let f = ap length c.self.view_is in omega (arith, c.requires) in
+    let e = c.in_ok-append.ensures.items ∙ ap (λ l. rs ++ l) c.in_ok-rows.ensures in
+    ap shown_rows e ∙ ((rows-grown c.args.nodes.items rs c.self.invariant few).1 ∙ ap (λ l. l ++ map made c.args.nodes.items) c.self.view_is)

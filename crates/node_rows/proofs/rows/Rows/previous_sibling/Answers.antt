@@ -1,0 +1,14 @@
+use Rattle.std.proofs.Common.{◌<◌, length, sym, ◌∙◌, ap}
+use Rattle.std.proofs.lemmas.List.{get_or_read}
+use Rattle.node_rows.specs.Nodes.{previous_sibling_of}
+use Rattle.node_rows.specs.Shown.{no_row}
+use Rattle.node_rows.proofs.Join.{length-shown}
+use Rattle.node_rows.proofs.Siblings.{before-is}
+use Rattle.node_rows.proofs.rows.Rows.previous_sibling.Goals as goal
+
+pub returns-in-Some : goal.returns-in-Some
+returns-in-Some c =
+    let rs = c.self.inside.items.items in
+    let b : c.args.n < length rs = rw (← length-shown rs) (rw c.self.view_is c.requires) in
+    let r = get_or_read rs c.args.n c.index-row.result.now b c.index-row.ensures no_row in
+    ap (λ x. x.before) r ∙ (before-is rs c.self.invariant c.args.n c.in-Some.field-0 b (sym (ap (λ x. x.parent) r) ∙ c.in-Some.is) ∙ ap (λ ns. previous_sibling_of ns c.args.n) c.self.view_is)

@@ -1,0 +1,23 @@
+use Rattle.std.proofs.Common.{◌<◌, length, sym, ◌∙◌, ap, subst, set, List}
+use Rattle.std.proofs.lemmas.List.{get_or_read}
+use Rattle.node_rows.specs.declared.rows.Row.{Row}
+use Rattle.node_rows.specs.Shown.{no_row, shown_rows, IsLinked}
+use Rattle.node_rows.proofs.Join.{length-shown}
+use Rattle.node_rows.proofs.Writes.{dirty_row, shown-dirty, IsLinked-dirty}
+use Rattle.node_rows.proofs.rows.Rows.set_dirty.Goals as goal
+
+pub invariant_of-self : goal.invariant_of-self
+invariant_of-self c =
+    let rs = c.self.inside.items.items in
+    let b : c.args.n < length rs = rw (← length-shown rs) (rw c.self.view_is c.requires) in
+    let r = get_or_read rs c.args.n c.index_mut-row.result.now b c.index_mut-row.ensures.value no_row in
+    let put : Row → List Row = λ x. set rs c.args.n (dirty_row x c.args.dirty) in
+    subst IsLinked (ap put (sym r)) (IsLinked-dirty rs c.args.n b c.args.dirty c.self.invariant)
+
+pub returns : goal.returns
+returns c =
+    let rs = c.self.inside.items.items in
+    let b : c.args.n < length rs = rw (← length-shown rs) (rw c.self.view_is c.requires) in
+    let r = get_or_read rs c.args.n c.index_mut-row.result.now b c.index_mut-row.ensures.value no_row in
+    let put : Row → List Row = λ x. set rs c.args.n (dirty_row x c.args.dirty) in
+    rw (← c.self.view_is) (ap shown_rows (ap put r) ∙ shown-dirty rs c.args.n b c.args.dirty)

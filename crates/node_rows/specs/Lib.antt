@@ -1,0 +1,13 @@
+pub mod Nodes
+pub mod Sound
+pub mod NumberTrees
+pub mod NodeList
+pub mod Appended
+pub mod Segments
+pub mod Shown
+pub mod Joins
+pub mod Examples
+pub mod Marks
+pub mod Beyond
+pub mod WrittenTexts
+pub mod Growth

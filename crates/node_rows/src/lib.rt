@@ -1,0 +1,14 @@
+// The nodes of a forest by number: texts, links and marks, in rows.
+#![tactic(auto)]
+
+pub mod changes;
+pub mod growth;
+pub mod laws;
+pub mod links;
+pub mod marks;
+pub mod node_list;
+pub mod order;
+pub mod rows;
+#[cfg(test)]
+mod tests;
+pub mod texts;

@@ -1,0 +1,191 @@
+// The rows of a forest, by node number. Siblings are linked both ways.
+ghost use Rattle.std.specs.Prelude.{◌≡◌, ◌<◌, ◌≤◌, ◌++◌, ◌∷◌, [], length, slice_get, true, IfOk, OnOk, MatchResult};
+ghost use Rattle.node_rows.specs.Nodes.{Node, new_node, text_of, span_of, parent_of, children_of, is_dirty, next_sibling_of, previous_sibling_of};
+ghost use Rattle.node_rows.specs.Sound.{IsSound};
+ghost use Rattle.node_rows.specs.NodeList.{nodes_of, is_document_order, parents_in};
+ghost use Rattle.node_rows.specs.Appended.{appended, IsAppendable};
+
+use crate::node_list::NodeAt;
+use css_text::lexer::Span;
+use css_tree::node::NodeText;
+use std::alloc::{AllocError, Global};
+use std::marker::Model;
+
+/// What a row holds of a node: its text, its body's bytes in the source, the numbers of its parent, of its first and
+/// last child and of the siblings on both sides, the count of its children, and its mark.
+#[derive(Drop)]
+pub struct Row {
+    pub(crate) text: NodeText,
+    pub(crate) span: Option<Span>,
+    pub(crate) parent: Option<u32>,
+    pub(crate) first: Option<u32>,
+    pub(crate) last: Option<u32>,
+    pub(crate) before: Option<u32>,
+    pub(crate) after: Option<u32>,
+    pub(crate) count: u32,
+    pub(crate) dirty: bool,
+}
+
+/// The nodes of a forest by number. A clause sees them as a list, each node with the list of its children.
+#[derive(Drop)]
+pub struct Rows {
+    pub(crate) items: Vec<Row>,
+}
+
+impl Model for Rows {
+    ghost use Rattle.std.specs.Prelude.{List};
+    ghost use Rattle.node_rows.specs.Nodes.{Node};
+
+    ghost Value = { List Node };
+
+    ghost use Rattle.node_rows.specs.Shown.{shown_rows, IsLinked};
+
+    ghost view = { λ r. shown_rows r.items.items };
+
+    ghost invariant = { λ r. IsLinked r.items.items };
+}
+
+impl Rows {
+    /// No nodes, with room for so many. The only error is want of memory.
+    pub fn with_capacity(alloc: Global, count: usize) -> Result<Rows, AllocError>
+        ensures { IfOk result (λ rows. rows ≡ []) }
+    {
+        let items = Vec::with_capacity(alloc, count)?;
+        Ok(Rows { items })
+    }
+
+    /// How many nodes there are, loose ones too.
+    pub fn len(&self) -> usize
+        ensures { result ≡ length self.now }
+    {
+        self.items.len()
+    }
+
+    /// What is true of every `Rows`, for a caller's proof. It does nothing.
+    pub fn facts(&self)
+        ensures { IsSound self.now }
+    {
+        let _ = &self.items;
+    }
+
+    /// The node's text.
+    pub fn text(&self, n: u32) -> &NodeText
+        requires { n < length self.now }
+        ensures { result.now ≡ text_of self.now n }
+    {
+        let row = &self.items[n as usize];
+        &row.text
+    }
+
+    /// The bytes of the node's body in the source; none for a new node.
+    pub fn span(&self, n: u32) -> Option<Span>
+        requires { n < length self.now }
+        ensures { result ≡ span_of self.now n }
+    {
+        self.items[n as usize].span
+    }
+
+    /// The node's parent; none for the root and for a loose node.
+    pub fn parent(&self, n: u32) -> Option<u32>
+        requires { n < length self.now }
+        ensures { result ≡ parent_of self.now n }
+    {
+        self.items[n as usize].parent
+    }
+
+    /// Whether the node is marked dirty.
+    pub fn is_dirty(&self, n: u32) -> bool
+        requires { n < length self.now }
+        ensures { result ≡ is_dirty self.now n }
+    {
+        self.items[n as usize].dirty
+    }
+
+    /// How many children the node has, in constant time.
+    pub fn child_count(&self, n: u32) -> u32
+        requires { n < length self.now }
+        ensures { result ≡ length (children_of self.now n) }
+    {
+        self.items[n as usize].count
+    }
+
+    /// The node's first child, in constant time.
+    pub fn first_child(&self, n: u32) -> Option<u32>
+        requires { n < length self.now }
+        ensures { result ≡ slice_get (children_of self.now n) 0 }
+    {
+        self.items[n as usize].first
+    }
+
+    /// The sibling behind the node, in constant time.
+    pub fn next_sibling(&self, n: u32) -> Option<u32>
+        requires { n < length self.now }
+        ensures { result ≡ next_sibling_of self.now n }
+    {
+        let row = &self.items[n as usize];
+        match row.parent {
+            None => None,
+            Some(_) => row.after,
+        }
+    }
+
+    /// The sibling before the node, in constant time.
+    pub fn previous_sibling(&self, n: u32) -> Option<u32>
+        requires { n < length self.now }
+        ensures { result ≡ previous_sibling_of self.now n }
+    {
+        let row = &self.items[n as usize];
+        match row.parent {
+            None => None,
+            Some(_) => row.before,
+        }
+    }
+
+    /// One more node, loose and dirty, and its number. An error is want of memory, and leaves the rows as they were.
+    pub fn add(&mut self, text: NodeText, span: Option<Span>) -> Result<u32, AllocError>
+        requires { length self.old < 33554433 }
+        ensures { MatchResult result (λ n. (n ≡ length self.old) × (self.new ≡ self.old ++ new_node text span ∷ [])) (λ _. self.new ≡ self.old) }
+    {
+        let number = self.items.len() as u32;
+        self.items.push(Row {
+            text,
+            span,
+            parent: None,
+            first: None,
+            last: None,
+            before: None,
+            after: None,
+            count: 0,
+            dirty: true,
+        })?;
+        Ok(number)
+    }
+
+    // One more node as the last child of its parent; the first node is the root.
+    fn append(&mut self, node: NodeAt) -> Result<(), AllocError>
+        requires { IsAppendable self.old node }
+        ensures { OnOk result (self.new ≡ appended self.old node) }
+    {
+        self.facts();
+        let NodeAt { parent, text, span } = node;
+        let is_root = self.len() == 0;
+        let n = self.add(text, Some(span))?;
+        if !is_root {
+            self.link_last(parent, n);
+        }
+        Ok(())
+    }
+
+    /// The nodes of a list in document order. The only error is want of memory.
+    pub fn from_nodes(alloc: Global, nodes: Vec<NodeAt>) -> Result<Rows, AllocError>
+        requires few { length nodes.items ≤ 33554433 }
+        requires order { is_document_order (parents_in nodes.items) ≡ true }
+        ensures { IfOk result (λ rows. rows ≡ nodes_of nodes.items) }
+    {
+        let mut rows = Rows::with_capacity(alloc, nodes.len())?;
+        for node in nodes {
+            rows.append(node)?;
+        }
+        Ok(rows)
+    }
+}

@@ -1,0 +1,16 @@
+pub mod Above
+pub mod Members
+pub mod Places
+pub mod Marks
+pub mod Document
+pub mod Changes
+pub mod Moves
+pub mod Through
+pub mod Good
+pub mod Steps
+pub mod Runs
+pub mod Ends
+pub mod Positions
+pub mod Whole
+pub mod Turns
+pub mod Bound
