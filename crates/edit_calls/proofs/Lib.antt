@@ -1,0 +1,5 @@
+mod Answering
+mod Turns
+mod Moved
+mod Beside
+mod Copied

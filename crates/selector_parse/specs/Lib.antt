@@ -1,0 +1,9 @@
+pub mod Reading
+pub mod Tree
+pub mod Grammar
+pub mod Machine
+pub mod Row
+pub mod Fault
+pub mod Worth
+pub mod Normal
+pub mod Examples

@@ -1,0 +1,498 @@
+// Parsing selectors.
+ghost use Rattle.std.specs.Prelude.{◌≡◌, ◌==◌, ◌&&◌, ◌+◌, ◌-◌, ◌≤◌, ◌<◌, ◌^◌, IfOk, IfErr, OnOk, ◌++◌, ◌∷◌, [], true, false, drop, length, map, take, slice_index, Some, None};
+ghost use Rattle.std.specs.Str.{chars, IsUtf8, IsCharBoundary};
+ghost use Rattle.selector_parse.specs.Reading.{scan_len, scan_last, is_final as is_final_of};
+ghost use Rattle.selector_parse.specs.Tree.{made, part_before, complex_before, args_of, none, tree_of, in_turn, with_commas, written, absent, text as plain_text};
+ghost use Rattle.selector_parse.specs.Grammar.{Selects, comment_next, may_end as may_end_of};
+ghost use Rattle.selector_parse.specs.Fault.{Stops};
+ghost use Rattle.selector_parse.specs.Worth.{total, parts_in_args, parts_in_part, parts_in_complex, parts_in_list};
+ghost use Rattle.selector_parse.specs.Row.{IsRow, IsEnded, IsArguments, IsClosedText, IsListText, IsInsideRun, OnlyMemory, Halts, NameHalts, ListHalts, TextHalts, gap_choice, takes_gap, reads_blanks as reads_blanks_of, is_blank_list as is_blank_list_of, complex_parts, list_parts, closes as closes_of, list_stops as list_stops_of, stops as stops_of};
+
+use crate::names::{kind_of, takes_list};
+use crate::part::{Args, Complex, Part, PartKind, SelectorFault, Selectors};
+use crate::phase::Phase;
+use crate::reading::{Gap, Reading, Within};
+use crate::scan::scan;
+use css_text::scan::byte_at;
+use css_text::stop::Stop;
+use css_text::txt::Txt;
+use std::alloc::{AllocError, Global};
+
+/// At most so many parentheses are open at once.
+const MOST_DEPTH: usize = 100;
+
+/// Why parsing stops: at a byte with which no list of selectors goes on, or for want of memory.
+#[derive(Drop)]
+enum Failure {
+    At(usize),
+    Memory(AllocError),
+}
+
+impl From<AllocError> for Failure {
+    ghost use Rattle.std.specs.Prelude.{◌≡◌};
+    ghost use Rattle.selector_parse.specs.declared.parse.Failure.TheVariants.{Memory};
+
+    ghost from_gives = { λ error e. e ≡ Memory error };
+
+    fn from(e: AllocError) -> Failure {
+        Failure::Memory(e)
+    }
+}
+
+/// Arguments, and the byte where they end.
+#[derive(Drop)]
+struct Arguments {
+    args: Args,
+    end: usize,
+}
+
+/// A part, the byte where it ends, and what may follow it.
+#[derive(Drop)]
+struct Placed {
+    part: Part,
+    end: usize,
+    phase: Phase,
+}
+
+/// The parts of a complex selector, and the byte where it ends.
+#[derive(Drop)]
+struct Row {
+    parts: Vec<Part>,
+    end: usize,
+}
+
+/// A list, and the byte where it ends.
+#[derive(Drop)]
+struct Listed {
+    list: Vec<Complex>,
+    end: usize,
+}
+
+/// At the index stands a `)` that closes one of so many parentheses.
+fn closes(s: &[u8], at: usize, depth: usize) -> bool
+    ensures { result ≡ closes_of s.now at depth }
+{
+    depth > 0 && byte_at(s, at) == b')'
+}
+
+/// A list ends at the index.
+fn list_stops(s: &[u8], at: usize, depth: usize) -> bool
+    ensures { result ≡ list_stops_of s.now at depth }
+{
+    at >= s.len() || closes(s, at, depth)
+}
+
+/// A complex selector ends at the index.
+fn stops(s: &[u8], at: usize, depth: usize) -> bool
+    ensures { result ≡ stops_of s.now at depth }
+{
+    byte_at(s, at) == b',' || list_stops(s, at, depth)
+}
+
+/// One more behind the others.
+fn push<T: Drop>(list: &mut Vec<T>, item: T) -> Result<(), AllocError>
+    ensures { OnOk result (list.new.items ≡ list.old.items ++ item ∷ []) }
+{
+    list.push(item)?;
+    Ok(())
+}
+
+/// A part.
+fn make_part(
+    alloc: Global,
+    src: &str,
+    kind: PartKind,
+    at: usize,
+    end: usize,
+    args: Args,
+) -> Result<Part, AllocError>
+    requires small { length src.now < 2 ^ 32 }
+    requires order { at ≤ end }
+    requires low { IsCharBoundary src.now at }
+    requires high { IsCharBoundary src.now end }
+    ensures part { IfOk result (λ p. part_before p none
+        ≡ made kind at (chars (take (end - at) (drop at src.now))) (args_of args) none) }
+    ensures few { IfOk result (λ p. parts_in_part p ≡ 1 + parts_in_args args) }
+{
+    let text = Txt::new(alloc, &src[at..end])?;
+    Ok(Part {
+        kind,
+        at: at as u32,
+        text,
+        args,
+    })
+}
+
+/// The part that blanks and signs make, by what they hold and whether the complex selector ends behind them; and what may
+/// follow. `None` for comments inside a compound.
+fn gap_kind(phase: Phase, gap: Gap, stops: bool) -> Option<(PartKind, Phase)>
+    ensures { result ≡ gap_choice phase gap stops }
+{
+    match (phase, gap) {
+        (_, Gap::Symbol) => Some((PartKind::Combinator, Phase::Open)),
+        (Phase::Fresh, _) => Some((PartKind::Blank, Phase::Open)),
+        _ if stops => Some((PartKind::Blank, Phase::Trailing)),
+        (_, Gap::Spaced) => Some((PartKind::Combinator, Phase::Open)),
+        _ => None,
+    }
+}
+
+/// A part without arguments.
+fn bare_part(
+    alloc: Global,
+    src: &str,
+    kind: PartKind,
+    at: usize,
+    end: usize,
+    phase: Phase,
+) -> Result<Placed, Failure>
+    requires small { length src.now < 2 ^ 32 }
+    requires order { at ≤ end }
+    requires low { IsCharBoundary src.now at }
+    requires high { IsCharBoundary src.now end }
+    ensures part { IfOk result (λ p. (part_before p.part none
+        ≡ made kind at (chars (take (end - at) (drop at src.now))) absent none) × (p.end ≡ end) × (p.phase ≡ phase)) }
+    ensures memory { IfErr result OnlyMemory }
+    ensures few { IfOk result (λ p. parts_in_part p.part ≡ 1) }
+{
+    let part = make_part(alloc, src, kind, at, end, Args::Absent)?;
+    Ok(Placed { part, end, phase })
+}
+
+/// The comment at the byte `at`, inside a compound.
+fn comment_from(
+    alloc: Global,
+    src: &str,
+    at: usize,
+    depth: usize,
+    phase: Phase,
+) -> Result<Placed, Failure>
+    requires utf8 { IsUtf8 src.now }
+    requires small { length src.now < 2 ^ 32 }
+    requires boundary { IsCharBoundary src.now at }
+    requires within { at < length src.now }
+    requires inside { comment_next phase ≡ Some Phase.Commented }
+    requires slash { slice_index src.now at ≡ 47 }
+    requires comments { phase ≡ Phase.Inside → IsInsideRun src.now at depth }
+    ensures row { IfOk result (λ p. IsRow src.now at depth phase (part_before p.part none) p.phase p.end) }
+    ensures longer { IfOk result (λ p. at < p.end) }
+    ensures halt { IfErr result (λ e. Halts src.now at depth phase e) }
+    ensures few { IfOk result (λ p. at + parts_in_part p.part ≤ p.end) }
+{
+    let (end, reading) = scan(src.as_bytes(), at, Reading::Blank(Gap::One));
+    match reading {
+        Reading::Done => bare_part(alloc, src, PartKind::Comment, at, end, Phase::Commented),
+        _ => Err(Failure::At(end)),
+    }
+}
+
+/// The blanks and signs at the byte `at`, which end at `end` and hold `gap`.
+fn gap_part(
+    alloc: Global,
+    src: &str,
+    at: usize,
+    depth: usize,
+    phase: Phase,
+    end: usize,
+    gap: Gap,
+) -> Result<Placed, Failure>
+    requires utf8 { IsUtf8 src.now }
+    requires small { length src.now < 2 ^ 32 }
+    requires boundary { IsCharBoundary src.now at }
+    requires order { at < end }
+    requires within { end ≤ length src.now }
+    requires end { end ≡ at + scan_len (Reading.Blank Gap.Comments) (drop at src.now) }
+    requires gap { Reading.Blank gap ≡ scan_last (Reading.Blank Gap.Comments) (drop at src.now) }
+    requires phase { takes_gap phase ≡ true }
+    ensures row { IfOk result (λ p. IsRow src.now at depth phase (part_before p.part none) p.phase p.end) }
+    ensures longer { IfOk result (λ p. at < p.end) }
+    ensures halt { IfErr result (λ e. Halts src.now at depth phase e) }
+    ensures few { IfOk result (λ p. at + parts_in_part p.part ≤ p.end) }
+{
+    match gap_kind(phase, gap, stops(src.as_bytes(), end, depth)) {
+        Some((kind, next)) => bare_part(alloc, src, kind, at, end, next),
+        None => comment_from(alloc, src, at, depth, phase),
+    }
+}
+
+/// White space and comments have been read.
+fn reads_blanks(reading: Reading) -> bool
+    ensures { result ≡ reads_blanks_of reading }
+{
+    matches!(reading, Reading::Blank(Gap::Comments | Gap::Spaced))
+}
+
+/// From the byte `from` on stand blanks alone, up to a `)`.
+fn is_blank_list(s: &[u8], from: usize) -> bool
+    requires { from ≤ length s.now }
+    ensures { result ≡ is_blank_list_of s.now from }
+{
+    let (end, reading) = scan(s, from, Reading::Blank(Gap::Comments));
+    reads_blanks(reading) && byte_at(s, end) == b')'
+}
+
+/// A part that has been read ends at the index, and a `)` follows.
+fn is_closed(s: &[u8], end: usize, reading: Reading) -> bool
+    ensures { result ≡ (is_final_of reading && slice_index s.now end == 41) }
+{
+    reading.is_final() && byte_at(s, end) == b')'
+}
+
+/// The simple selector from the byte `at` to the byte `end` has arguments.
+fn has_arguments(s: &[u8], at: usize, end: usize) -> bool
+    ensures { result ≡ (slice_index s.now at == 58 && slice_index s.now end == 40) }
+{
+    byte_at(s, at) == b':' && byte_at(s, end) == b'('
+}
+
+/// Arguments that are no list, from the byte `from` behind their `(`.
+fn plain_arguments(
+    alloc: Global,
+    src: &str,
+    from: usize,
+    start: Reading,
+) -> Result<Arguments, Failure>
+    requires utf8 { IsUtf8 src.now }
+    requires boundary { IsCharBoundary src.now from }
+    ensures row { IfOk result (λ a. IsClosedText src.now from start (args_of a.args) a.end) }
+    ensures halt { IfErr result (λ e. TextHalts src.now from start e) }
+    ensures few { IfOk result (λ a. from + parts_in_args a.args ≤ a.end) }
+{
+    let bytes = src.as_bytes();
+    let (end, reading) = scan(bytes, from, start);
+    if !is_closed(bytes, end, reading) {
+        return Err(Failure::At(end));
+    }
+    let text = Txt::new(alloc, &src[from..end])?;
+    Ok(Arguments {
+        args: Args::Plain(text),
+        end: end + 1,
+    })
+}
+
+/// Arguments that are a list, or blanks alone, from the byte `from` behind their `(`.
+#[cycle(parse)]
+fn list_arguments(alloc: Global, src: &str, from: usize, depth: usize) -> Result<Arguments, Failure>
+    requires utf8 { IsUtf8 src.now }
+    requires small { length src.now < 2 ^ 32 }
+    requires boundary { IsCharBoundary src.now from }
+    requires depth { depth ≤ 100 }
+    requires inside { 0 < depth }
+    ensures row { IfOk result (λ a. IsListText src.now from depth (args_of a.args) a.end) }
+    ensures halt { IfErr result (λ e. ListHalts src.now from depth e) }
+    ensures few { IfOk result (λ a. from + parts_in_args a.args ≤ a.end) }
+{
+    let bytes = src.as_bytes();
+    if is_blank_list(bytes, from) {
+        return plain_arguments(alloc, src, from, Reading::Blank(Gap::Comments));
+    }
+    let inside = list_from(alloc, src, from, depth)?;
+    if byte_at(bytes, inside.end) != b')' {
+        return Err(Failure::At(inside.end));
+    }
+    Ok(Arguments {
+        args: Args::List(Selectors { list: inside.list }),
+        end: inside.end + 1,
+    })
+}
+
+/// The arguments behind the simple selector that stands from the byte `at` to the byte `end`, inside so many parentheses.
+#[cycle(parse)]
+fn arguments_from(
+    alloc: Global,
+    src: &str,
+    at: usize,
+    end: usize,
+    depth: usize,
+) -> Result<Arguments, Failure>
+    requires utf8 { IsUtf8 src.now }
+    requires small { length src.now < 2 ^ 32 }
+    requires order { at < end }
+    requires low { IsCharBoundary src.now at }
+    requires high { IsCharBoundary src.now end }
+    requires depth { depth ≤ 100 }
+    ensures row { IfOk result (λ a. IsArguments src.now end depth (chars (take (end - at) (drop at src.now))) (args_of a.args) a.end) }
+    ensures halt { IfErr result (λ e. NameHalts src.now end depth (chars (take (end - at) (drop at src.now))) e) }
+    ensures few { IfOk result (λ a. end + parts_in_args a.args ≤ a.end) }
+{
+    let bytes = src.as_bytes();
+    if !has_arguments(bytes, at, end) {
+        return Ok(Arguments {
+            args: Args::Absent,
+            end,
+        });
+    }
+    if depth >= MOST_DEPTH {
+        return Err(Failure::At(end));
+    }
+    if takes_list(&bytes[at..end]) {
+        return list_arguments(alloc, src, end + 1, depth + 1);
+    }
+    let start = Reading::Text(Within::Parentheses(0, MOST_DEPTH - (depth + 1)));
+    plain_arguments(alloc, src, end + 1, start)
+}
+
+/// The simple selector at the byte `at`, with its arguments.
+#[cycle(parse)]
+fn simple_from(
+    alloc: Global,
+    src: &str,
+    at: usize,
+    depth: usize,
+    phase: Phase,
+) -> Result<Placed, Failure>
+    requires utf8 { IsUtf8 src.now }
+    requires small { length src.now < 2 ^ 32 }
+    requires boundary { IsCharBoundary src.now at }
+    requires depth { depth ≤ 100 }
+    requires going { may_end_of phase ≡ true → stops_of src.now at depth ≡ false }
+    requires gapless { takes_gap phase ≡ true → scan_len (Reading.Blank Gap.Comments) (drop at src.now) ≡ 0 }
+    requires slashless { phase ≡ Phase.Commented → slice_index src.now at ≡ 47 → ⊥ }
+    ensures row { IfOk result (λ p. IsRow src.now at depth phase (part_before p.part none) p.phase p.end) }
+    ensures longer { IfOk result (λ p. at < p.end) }
+    ensures halt { IfErr result (λ e. Halts src.now at depth phase e) }
+    ensures few { IfOk result (λ p. at + parts_in_part p.part ≤ p.end) }
+{
+    let Some(start) = phase.starts() else {
+        return Err(Failure::At(at));
+    };
+    let bytes = src.as_bytes();
+    let (end, reading) = scan(bytes, at, start);
+    if !reading.is_final() {
+        return Err(Failure::At(end));
+    }
+    let arguments = arguments_from(alloc, src, at, end, depth)?;
+    let kind = kind_of(&bytes[at..end]);
+    let part = make_part(alloc, src, kind, at, end, arguments.args)?;
+    Ok(Placed {
+        part,
+        end: arguments.end,
+        phase: Phase::Inside,
+    })
+}
+
+/// The part at the byte `at`, where blanks and signs may stand.
+#[cycle(parse)]
+fn gap_or_simple(
+    alloc: Global,
+    src: &str,
+    at: usize,
+    depth: usize,
+    phase: Phase,
+) -> Result<Placed, Failure>
+    requires utf8 { IsUtf8 src.now }
+    requires small { length src.now < 2 ^ 32 }
+    requires boundary { IsCharBoundary src.now at }
+    requires depth { depth ≤ 100 }
+    requires phase { takes_gap phase ≡ true }
+    requires going { may_end_of phase ≡ true → stops_of src.now at depth ≡ false }
+    ensures row { IfOk result (λ p. IsRow src.now at depth phase (part_before p.part none) p.phase p.end) }
+    ensures longer { IfOk result (λ p. at < p.end) }
+    ensures halt { IfErr result (λ e. Halts src.now at depth phase e) }
+    ensures few { IfOk result (λ p. at + parts_in_part p.part ≤ p.end) }
+{
+    let (end, reading) = scan(src.as_bytes(), at, Reading::Blank(Gap::Comments));
+    if end == at {
+        return simple_from(alloc, src, at, depth, phase);
+    }
+    match reading {
+        Reading::Blank(gap) => gap_part(alloc, src, at, depth, phase, end, gap),
+        _ => Err(Failure::At(end)),
+    }
+}
+
+/// The part at the byte `at`, inside so many parentheses.
+#[cycle(parse)]
+fn part_from(
+    alloc: Global,
+    src: &str,
+    at: usize,
+    depth: usize,
+    phase: Phase,
+) -> Result<Placed, Failure>
+    requires utf8 { IsUtf8 src.now }
+    requires small { length src.now < 2 ^ 32 }
+    requires boundary { IsCharBoundary src.now at }
+    requires depth { depth ≤ 100 }
+    requires going { may_end_of phase ≡ true → stops_of src.now at depth ≡ false }
+    ensures row { IfOk result (λ p. IsRow src.now at depth phase (part_before p.part none) p.phase p.end) }
+    ensures longer { IfOk result (λ p. at < p.end) }
+    ensures halt { IfErr result (λ e. Halts src.now at depth phase e) }
+    ensures few { IfOk result (λ p. at + parts_in_part p.part ≤ p.end) }
+{
+    match phase {
+        Phase::Fresh | Phase::Inside => gap_or_simple(alloc, src, at, depth, phase),
+        Phase::Commented if byte_at(src.as_bytes(), at) == b'/' => {
+            comment_from(alloc, src, at, depth, phase)
+        }
+        _ => simple_from(alloc, src, at, depth, phase),
+    }
+}
+
+/// The complex selector from the byte `start` on, inside so many parentheses.
+#[cycle(parse)]
+fn complex_from(alloc: Global, src: &str, start: usize, depth: usize) -> Result<Row, Failure>
+    requires utf8 { IsUtf8 src.now }
+    requires small { length src.now < 2 ^ 32 }
+    requires boundary { IsCharBoundary src.now start }
+    requires depth { depth ≤ 100 }
+    ensures row { IfOk result (λ r. IsEnded src.now start depth (complex_parts r.parts.items) r.end) }
+    ensures last { IfOk result (λ r. stops_of src.now r.end depth ≡ true) }
+    ensures halt { IfErr result (λ e. Halts src.now start depth Phase.Fresh e) }
+    ensures few { IfOk result (λ r. start + total (map parts_in_part r.parts.items) ≤ r.end) }
+{
+    let mut parts = Vec::new(alloc);
+    let mut end = start;
+    let mut phase = Phase::Fresh;
+    'parts: while !phase.may_end() || !stops(src.as_bytes(), end, depth) {
+        let next = part_from(alloc, src, end, depth, phase)?;
+        push(&mut parts, next.part)?;
+        end = next.end;
+        phase = next.phase;
+    }
+    Ok(Row { parts, end })
+}
+
+/// The list from the byte `start` on, inside so many parentheses.
+#[cycle(parse)]
+fn list_from(alloc: Global, src: &str, start: usize, depth: usize) -> Result<Listed, Failure>
+    requires utf8 { IsUtf8 src.now }
+    requires small { length src.now < 2 ^ 32 }
+    requires boundary { IsCharBoundary src.now start }
+    requires depth { depth ≤ 100 }
+    ensures row { IfOk result (λ l. IsEnded src.now start depth (list_parts l.list.items) l.end) }
+    ensures last { IfOk result (λ l. list_stops_of src.now l.end depth ≡ true) }
+    ensures halt { IfErr result (λ e. Halts src.now start depth Phase.Fresh e) }
+    ensures few { IfOk result (λ l. start + total (map parts_in_complex l.list.items) ≤ l.end) }
+{
+    let bytes = src.as_bytes();
+    let first = complex_from(alloc, src, start, depth)?;
+    let mut end = first.end;
+    let mut list = Vec::new(alloc);
+    push(&mut list, Complex { parts: first.parts })?;
+    'list: while byte_at(bytes, end) == b',' {
+        let next = complex_from(alloc, src, end + 1, depth)?;
+        push(&mut list, Complex { parts: next.parts })?;
+        end = next.end;
+    }
+    Ok(Listed { list, end })
+}
+
+/// The selectors of a text: complex selectors with commas between them. The grammar is that of CSS selectors with nesting
+/// and namespaces; blanks and comments are kept, so the parts print to the text again (`print_selectors`).
+///
+/// The error is want of memory, or the fault of a text that is no list of selectors: it tells how many bytes the longest front
+/// of the text has with which some list begins.
+pub fn parse_selector(alloc: Global, src: &str) -> Result<Selectors, Stop<SelectorFault>>
+    requires { length src.now < 2 ^ 32 }
+    ensures parts { IfOk result (λ s. Selects (chars src.now) (tree_of s)) }
+    ensures source { IfOk result (λ s. written (tree_of s) ≡ chars src.now) }
+    ensures stops { IfErr result (Stops (chars src.now)) }
+    ensures few { IfOk result (λ s. parts_in_list s ≤ length src.now) }
+{
+    match list_from(alloc, src, 0, 0) {
+        Ok(row) => Ok(Selectors { list: row.list }),
+        Err(Failure::At(at)) => Err(Stop::Fault(SelectorFault { at: at as u32 })),
+        Err(Failure::Memory(e)) => Err(Stop::Memory(e)),
+    }
+}
