@@ -1,0 +1,5 @@
+pub mod Planned
+pub mod Shorts
+pub mod Unnested
+pub mod Going
+pub mod Duties
