@@ -3,6 +3,10 @@
 
 mod carry_out;
 mod command;
+#[cfg(test)]
+mod edit_model;
+#[cfg(test)]
+mod edit_tests;
 mod empty_blocks;
 pub mod fault;
 mod input;

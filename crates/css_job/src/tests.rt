@@ -41,7 +41,7 @@ const WRONG: &str = "csswork: <stdin> is not UTF-8 at byte 1\n";
 
 const MARKED: &[u8] = b"\xef\xbb\xbfa{}\r\n/*\xf0\x9f\x98\x80*/b{}";
 
-const ORDINARY: &str =
+pub(crate) const ORDINARY: &str =
     "@charset \"utf-8\";\n@import url(\"base.css\") screen;\n\n/* Fonts */\n@font-face {\n  font-family: \"Open Sans\";\n  src: url(open-sans.woff2) format(\"woff2\"), url(data:font/woff;base64,d09GRg==) format(\"woff\");\n}\n\n:root {\n  --brand: #aabbcc;\n}\n\n.nav > li:not(.active)::before {\n  content: \"\\201C\";\n  color: var(--brand, #336699);\n  -webkit-transition: opacity .2s ease-in-out;\n  transition: opacity .2s ease-in-out;\n}\n\n@media screen and (min-width: 600px) {\n  .nav { margin: 0 auto; }\n}\n\n@keyframes fade {\n  from { opacity: 0; }\n  to { opacity: 1 !important; }\n}\n";
 
 // No call has this number.
@@ -347,7 +347,7 @@ fn limits(rt: HostRuntime) -> Result<(), Fail> {
     Ok(())
 }
 
-fn work_of(alloc: Global, src: &str) -> Option<Work>
+pub(crate) fn work_of(alloc: Global, src: &str) -> Option<Work>
     requires { length src.now ≤ 10000 }
 {
     let text = match src.as_bytes().to_vec(alloc) {

@@ -3,3 +3,4 @@ pub mod Shorts
 pub mod Unnested
 pub mod Going
 pub mod Duties
+pub mod Shelved

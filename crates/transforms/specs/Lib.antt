@@ -1,3 +1,4 @@
 pub mod Fronts
 pub mod Reads
 pub mod Hex
+pub mod Shipped

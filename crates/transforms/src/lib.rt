@@ -5,6 +5,7 @@ pub mod acts;
 pub mod dropping;
 mod edits;
 mod hex;
+pub mod shelf;
 pub mod short_hex;
 #[cfg(test)]
 mod tests;

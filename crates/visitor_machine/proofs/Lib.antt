@@ -14,3 +14,8 @@ pub mod Positions
 pub mod Whole
 pub mod Turns
 pub mod Bound
+pub mod Kept
+pub mod SameBelow
+pub mod Stood
+pub mod Untouched
+pub mod OneFresh

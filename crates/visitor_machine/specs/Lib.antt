@@ -5,3 +5,6 @@ pub mod Told
 pub mod Settled
 pub mod Calls
 pub mod Examples
+pub mod Unchanged
+pub mod Altered
+pub mod AlteredExamples

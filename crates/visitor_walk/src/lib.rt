@@ -1,0 +1,13 @@
+// The walk of plugins over a style sheet's tree.
+#![tactic(auto)]
+
+mod call;
+mod fits;
+mod hooks;
+pub mod laws;
+mod pass;
+mod reads;
+mod spent;
+mod turn;
+pub mod walk;
+pub mod walk_end;

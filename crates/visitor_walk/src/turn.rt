@@ -1,0 +1,214 @@
+// The walk between two calls.
+ghost use Rattle.std.specs.Prelude.{◌≡◌, ℕ, ◌+◌, ◌<◌, ◌≤◌, ◌*◌, ◌∷◌, ◌++◌, [], reverse, length, List, IfOk, IfSome, MatchOption, None, drop};
+ghost use Rattle.node_rows.specs.Nodes.{holds};
+ghost use Rattle.node_store.specs.Forest.{cursor_at};
+ghost use Rattle.node_store.specs.declared.item.Item.TheVariants as I;
+ghost use Rattle.node_store.specs.Cursors.{through};
+ghost use Rattle.visitor_machine.specs.Hooks.{PickedHook, fits};
+ghost use Rattle.visitor_machine.specs.Machine.{State, key_at};
+ghost use Rattle.plugin_api.specs.Shelf.{PluginSeen};
+ghost use Rattle.visitor_walk.specs.Groups.{IsGrouped, shown_hooks};
+ghost use Rattle.visitor_walk.specs.Turns.{IsNext, Opened, NextDirty, Closes, Leaves, Enters, Shows, IsPass, Strolls, Turned, IsLess, AreOnShelf, AllOnShelf, IsOnShelf};
+
+use crate::fits::next_fitting;
+use crate::hooks::{RunHook, RunHooks};
+use crate::reads::{enter_event, exit_event, is_in_tree, key, kind};
+use css_text::stop::Stop;
+use node_store::cursors::Cursor;
+use node_store::id::NodeId;
+use node_store::item::{Item, Moment};
+use node_store::work::Work;
+use std::alloc::AllocError;
+
+/// An open visit: its node, how many enter and exit hooks are passed, and the cursor over its children once it was needed.
+#[derive(Drop)]
+pub struct Open {
+    pub node: NodeId,
+    pub enter: usize,
+    pub exit: usize,
+    pub children: Option<Cursor>,
+}
+
+/// A call that is due.
+#[derive(Clone, Copy)]
+pub struct Due {
+    pub plugin: u32,
+    pub hook: u32,
+    pub moment: Moment,
+}
+
+/// A call that is due at a node, and the place behind its hook.
+#[derive(Clone, Copy)]
+pub struct Next {
+    pub behind: usize,
+    pub due: Due,
+}
+
+/// The call of a hook at a node.
+pub fn due_at(hook: &RunHook, node: NodeId) -> Due
+    ensures { result ≡ record { plugin = hook.now.plugin; hook = hook.now.hook; moment = record { event = hook.now.event; node = node } } }
+{
+    Due {
+        plugin: hook.plugin,
+        hook: hook.hook,
+        moment: Moment {
+            event: hook.event,
+            node,
+        },
+    }
+}
+
+// The call of the first hook, at or after a place, that fits the node's name or property.
+fn next_call(work: &Work, hooks: &[RunHook], node: NodeId, from: usize) -> Option<Next>
+    requires { node < length work.now.nodes }
+    ensures next { MatchOption result
+        (through (fits (key_at work.now.nodes node)) (drop from (shown_hooks hooks.now)) ≡ None)
+        (λ next. IsNext work.now.nodes hooks.now node from next) }
+    ensures calls { (shelf : List PluginSeen) → AreOnShelf shelf hooks.now → IfSome result (λ next. IsOnShelf shelf next.due) }
+{
+    match next_fitting(hooks, from, key(work, node)) {
+        None => None,
+        Some(at) => Some(Next {
+            behind: at + 1,
+            due: due_at(&hooks[at], node),
+        }),
+    }
+}
+
+// The cursor over the node's children, which is opened when it is first needed; none where the node has no block.
+fn opened(
+    work: &mut Work,
+    node: NodeId,
+    children: Option<Cursor>,
+) -> Result<Option<Cursor>, AllocError>
+    requires { node < length work.old.nodes }
+    ensures { Opened work.old work.new node children result }
+{
+    work.facts();
+    match children {
+        Some(cursor) => Ok(Some(cursor)),
+        None => match work.open_each(node) {
+            Ok(cursor) => Ok(Some(cursor)),
+            Err(Stop::Fault(_)) => Ok(None),
+            Err(Stop::Memory(error)) => Err(error),
+        },
+    }
+}
+
+// The next dirty child, which is passed then.
+fn next_dirty(work: &mut Work, children: &Option<Cursor>) -> Option<NodeId>
+    ensures { NextDirty work.old work.new children.now result }
+{
+    match children {
+        None => None,
+        Some(cursor) => match work.next_dirty(cursor) {
+            Ok(child) => child,
+            Err(_) => None,
+        },
+    }
+}
+
+/// Closes the cursor of a visit, where it has one.
+pub fn close(work: &mut Work, children: Option<Cursor>)
+    ensures { Closes work.old work.new children }
+{
+    match children {
+        None => {}
+        Some(cursor) => {
+            let _ = work.close(cursor);
+        }
+    }
+}
+
+fn leave(work: &mut Work, visit: Open) -> Result<(), AllocError>
+    ensures { Leaves work.old work.new visit result }
+{
+    work.note(Item::Leave(visit.node))?;
+    close(work, visit.children);
+    Ok(())
+}
+
+// Enters a child of the innermost visit.
+fn enter(
+    work: &mut Work,
+    stack: &mut Vec<Open>,
+    visit: Open,
+    child: NodeId,
+) -> Result<(), AllocError>
+    requires { child < length work.old.nodes }
+    ensures { Enters work.old work.new stack.old.items stack.new.items visit child result }
+{
+    work.note(Item::Enter(child))?;
+    stack.push(visit)?;
+    stack.push(Open {
+        node: child,
+        enter: 0,
+        exit: 0,
+        children: None,
+    })?;
+    Ok(())
+}
+
+/// One turn of the innermost visit: it is left, or a child is entered, or a call is due.
+pub fn take_turn(
+    work: &mut Work,
+    hooks: &RunHooks,
+    stack: &mut Vec<Open>,
+    mut top: Open,
+) -> Result<Option<Due>, AllocError>
+    ensures walked { (hs : List PickedHook) (most : ℕ) (s : State) → IsGrouped hooks.now hs → IsPass hs s.stage → Shows work.old (top ∷ reverse stack.old.items) s →
+        (w : Strolls hs most work.old (top ∷ reverse stack.old.items) s work.new) × IfOk result (λ r. Turned hs work.old work.new (top ∷ reverse stack.old.items) (reverse stack.new.items) s w.state r) }
+    ensures less { IfOk result (λ r. IsLess work.old work.new stack.old.items stack.new.items r) }
+    ensures grows { length work.old.log ≤ length work.new.log }
+    ensures calls { (shelf : List PluginSeen) → AllOnShelf shelf hooks.now → IfOk result (λ r. IfSome r (λ due. IsOnShelf shelf due)) }
+{
+    if !is_in_tree(work, top.node) {
+        leave(work, top)?;
+        return Ok(None);
+    }
+    let kind = kind(work, top.node);
+    let enters = hooks.at(enter_event(kind));
+    if let Some(next) = next_call(work, enters, top.node, top.enter) {
+        top.enter = next.behind;
+        stack.push(top)?;
+        return Ok(Some(next.due));
+    }
+    let Open {
+        node,
+        enter: _,
+        exit,
+        children,
+    } = top;
+    let enter_end = enters.len();
+    let children = opened(work, node, children)?;
+    if let Some(child) = next_dirty(work, &children) {
+        let visit = Open {
+            node,
+            enter: enter_end,
+            exit,
+            children,
+        };
+        enter(work, stack, visit, child)?;
+        return Ok(None);
+    }
+    let exits = hooks.at(exit_event(kind));
+    if let Some(next) = next_call(work, exits, node, exit) {
+        stack.push(Open {
+            node,
+            enter: enter_end,
+            exit: next.behind,
+            children,
+        })?;
+        return Ok(Some(next.due));
+    }
+    leave(
+        work,
+        Open {
+            node,
+            enter: enter_end,
+            exit,
+            children,
+        },
+    )?;
+    Ok(None)
+}
