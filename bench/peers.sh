@@ -6,7 +6,8 @@
 # Takes bootstrap.css of Debian's libjs-bootstrap5 and PostCSS of Debian's node-postcss, which are installed by name where they
 # are missing and can be; else what lacks is skipped. For the sheet, and for thirty copies of it in one sheet of about 7 MB, it
 # prints the wall time (the best of three) and the peak memory of the whole processes: csswork transform, csswork lint, and
-# PostCSS parsing and printing; and the ratios to PostCSS. The outputs are compared with the input, byte for byte.
+# PostCSS parsing and printing; then csswork with the plugins short-hex and drop-empty, and PostCSS with the same two; and the
+# ratios to PostCSS. The first outputs are compared with the input, byte for byte, and the last two with each other.
 set -u
 top=$(cd "$(dirname "$0")/.." && pwd)
 work=$(mktemp -d)
@@ -29,6 +30,25 @@ const { readFileSync, writeSync } = require('fs')
 const postcss = require('postcss')
 const text = readFileSync(0, 'utf8')
 const bytes = Buffer.from(postcss.parse(text).toString())
+for (let at = 0; at < bytes.length; ) at += writeSync(1, bytes, at)
+JS
+cat >"$work/plugins.js" <<'JS'
+const { readFileSync, writeSync } = require('fs')
+const postcss = require('postcss')
+const digits = /#([0-9a-f])\1([0-9a-f])\2([0-9a-f])\3(?:([0-9a-f])\4)?(?![0-9a-z_-])/gi
+const shortHex = {
+    postcssPlugin: 'short-hex',
+    Declaration(node) {
+        const short = node.value.replace(digits, (all, a, b, c, d) => '#' + a + b + c + (d || ''))
+        if (short !== node.value) node.value = short
+    }
+}
+const drop = node => {
+    if (node.nodes && node.nodes.length === 0) node.remove()
+}
+const dropEmpty = { postcssPlugin: 'drop-empty', RuleExit: drop, AtRuleExit: drop }
+const text = readFileSync(0, 'utf8')
+const bytes = Buffer.from(postcss([shortHex, dropEmpty]).process(text, { from: undefined }).root.toString())
 for (let at = 0; at < bytes.length; ) at += writeSync(1, bytes, at)
 JS
 peer=no
@@ -79,5 +99,15 @@ for name in bootstrap thirty; do
         }'
     else
         echo '  PostCSS is not there, and was skipped'
+    fi
+    run 'csswork, plugins' "$input" 0 "$top/csswork" transform --use short-hex,drop-empty
+    plugins=$seconds
+    cp "$work/out" "$work/plugins.css"
+    if [ "$peer" = yes ]; then
+        run 'PostCSS, plugins' "$input" 0 node "$work/plugins.js"
+        same "$work/plugins.css" 'csswork and PostCSS with the plugins differ: one of them'
+        awk -v t="$plugins" -v p="$seconds" 'BEGIN {
+            printf "  PostCSS takes %.1f times as long as csswork with the plugins\n", p / t
+        }'
     fi
 done

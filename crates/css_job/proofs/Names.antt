@@ -1,5 +1,5 @@
 -- The names of streams, of kinds of faults and of severities are ASCII.
-use Rattle.std.proofs.Common.{◌≡◌, ℕ, List, Result, Ok, Err, refl, ◌∙◌}
+use Rattle.std.proofs.Common.{◌≡◌, ℕ, List, [], Result, Ok, Err, refl, ap, ◌∙◌}
 use lib.Utf8.{encode}
 use Rattle.std.specs.Prelude.{encode_utf8_all, IfOk}
 use Rattle.std.specs.declared.alloc.AllocError.{AllocError}
@@ -13,6 +13,11 @@ use Rattle.css_job.specs.declared.target.Target.TheVariants.{StdOut, StdErr}
 pub input_chars : chars input_name ≡ input_name
 unfolding chars
 input_chars = refl
+
+-- a text without characters
+pub empty_text : (t bytes : List ℕ) → t ≡ chars bytes → bytes ≡ [] → t ≡ []
+unfolding chars
+empty_text t bytes e n = e ∙ ap chars n
 
 pub input_bytes : encode_utf8_all input_name ≡ input_name
 unfolding encode

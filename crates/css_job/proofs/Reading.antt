@@ -1,28 +1,28 @@
 -- The first stage.
-use Rattle.std.proofs.Common.{◌≡◌, ℕ, ◌<◌, List, [], length, true, false, Some, None, Ok, Err, Result, refl, sym, ap, subst, ◌∙◌, arith, length-append}
-use Rattle.std.proofs.Common.{true≢false, ◌≤◌}
-use Rattle.std.specs.Prelude.{Option, IfSome, IfOk, is_some}
+use Rattle.std.proofs.Common.{◌≡◌, ℕ, ◌<◌, ◌≤◌, List, [], length, Bool, true, false, Some, None, Ok, Err, Result, IsErr, refl, sym, ap, subst, ◌∙◌, arith, length-append, ◌⊎◌, inl, inr, true≢false}
+use Rattle.std.specs.Prelude.{Option, IfSome, is_some}
+use Rattle.std.specs.Str.{chars}
 use Rattle.std.specs.Io.KnownBytes.{Consumes, IsAtEnd}
 use Rattle.std.proofs.KnownBytes.{Consumes-nil, Consumes-whole, Keeps-refl}
-use Rattle.io_edge.specs.Causes.{Rose}
-use Rattle.std.specs.Str.{chars}
-use Rattle.css_job.specs.Words.{command_of, are_taken}
-use Rattle.css_job.specs.declared.words.Command.{Command}
-use Rattle.css_job.specs.Faults.{input_name}
-use Rattle.css_job.specs.Reading.{Reading, IsReadingOf}
-use Rattle.css_job.specs.Plan.{Plan, command_plan, limit, stopped}
-use Rattle.css_job.specs.Outside.{Fed}
-use Rattle.css_job.proofs.Readings.{some_reading}
-use Rattle.css_job.proofs.Commands.{large_plan}
+use Rattle.std.proofs.lemmas.Bool.{false≢true}
 use Rattle.std.specs.declared.vec.Vec.{Vec}
 use Rattle.std.specs.declared.alloc.Global.{Global}
 use Rattle.std.specs.declared.alloc.AllocError.{AllocError}
+use Rattle.io_edge.specs.Causes.{Rose}
 use Rattle.io_edge.specs.Whole.{ReadsAll}
 use Rattle.io_edge.specs.declared.edge.ReadStop.{ReadStop}
 use Rattle.io_edge.specs.declared.edge.ReadStop.TheVariants as RS
-use Rattle.css_job.specs.declared.plan.Plan as P
-use Rattle.css_job.specs.Stages.{plan_seen, IsInputPlan, Prepares, Prepared, Unprepared}
+use Rattle.plugin_api.specs.Shelf.{PluginSeen}
+use Rattle.css_job.specs.Words.{Command}
+use Rattle.css_job.specs.Faults.{input_name}
+use Rattle.css_job.specs.Reading.{Reading, IsReadingOf}
+use Rattle.css_job.specs.Plan.{Plan, Reached, plan_of, turn_of, limit, stopped}
+use Rattle.css_job.specs.Outside.{Asked, Fed, names_of}
+use Rattle.css_job.specs.Stages.{stage_seen, Stage, Kept, CutOff, IsInputPlan, PlansInput, Prepares, IsPrepared, Unprepared}
+use Rattle.css_job.specs.declared.prepared.Prepared as S
 use Rattle.css_job.specs.declared.fault.Fault.TheVariants.{Usage, ReadFault, TooLarge}
+use Rattle.css_job.proofs.Readings.{some_reading}
+use Rattle.css_job.proofs.Commands.{Stages, unwalked, nothing, kept_none, cut_none, large_plan, large_turn, unread_turn}
 
 -- what an input is, where it isn't read to its end: what it tells, or these bytes
 abbrev known : Option (List ℕ) → List ℕ → List ℕ
@@ -40,14 +40,11 @@ text_reading bytes = (some_reading (chars bytes)).0
 text_is_read : (bytes : List ℕ) → IsReadingOf (chars bytes) (text_reading bytes)
 text_is_read bytes = (some_reading (chars bytes)).1
 
-none_taken : (o : Option Command) → o ≡ None → is_some o ≡ false
-none_taken o e = ap is_some e
+none_fed : (asked : Asked) (left : Option (List ℕ)) → Fed asked.command (known left []) left left
+none_fed asked left = record { told = known_told left []; given = []; front = Consumes-nil left; unread = λ h. Keeps-refl left }
 
-one_taken : (words : List (List ℕ)) (command : Command) → command_of words ≡ Some command → are_taken words ≡ true
-one_taken words command e = ap is_some e
-
-pub not_taken : (words : List (List ℕ)) (left : Option (List ℕ)) (n : ℕ) (plan : Plan) → command_of words ≡ None → plan ≡ stopped Usage → Prepared words left left n n plan
-not_taken words left n plan e p = record {
+pub not_taken : (asked : Asked) (left : Option (List ℕ)) (n : ℕ) (p : S.Prepared) (plan : Plan) → asked.command ≡ None → stage_seen p ≡ unwalked plan → plan ≡ stopped Usage → Prepares asked asked.shelf left left n n (Ok p)
+not_taken asked left n p plan e i k = record {
   bytes = known left [];
   reading = text_reading (known left []);
   is_reading = text_is_read (known left []);
@@ -55,45 +52,19 @@ not_taken words left n plan e p = record {
   rose = λ h. cc;
   same = λ h. refl;
   wanted = λ h. cc;
-  fed = record { told = known_told left []; given = []; front = Consumes-nil left; unread = λ h. Keeps-refl left };
+  fed = none_fed asked left;
   is_read = λ t u. absurd (true≢false (sym t ∙ ap is_some e));
-  is = p ∙ sym (ap (λ o. command_plan o (known left []) (text_reading (known left [])) false) e);
+  reached = nothing;
+  kept = kept_none asked.shelf (chars (known left [])) (turn_of asked.command (known left []) (text_reading (known left [])) false) nothing (stage_seen p) plan (ap (λ o. turn_of o (known left []) (text_reading (known left [])) false) e) i;
+  is = ap (λ z. z.plan) i ∙ (k ∙ sym (ap (λ o. plan_of o (names_of asked.shelf) (known left []) (text_reading (known left [])) nothing false) e));
 }
+
+-- where the words wanted memory
+pub none_read : (asked : Asked) (left : Option (List ℕ)) (n : ℕ) → Unprepared asked asked.shelf left left n n
+none_read asked left n = record { bytes = known left []; reads = inl refl; fed = none_fed asked left; visits = cut_none asked.shelf asked.command (chars (known left [])) }
 
 told_whole : (a b : Option (List ℕ)) (bytes : List ℕ) → Consumes a b bytes → IsAtEnd b → IfSome a (λ xs. bytes ≡ xs)
 told_whole a b bytes c e = Consumes-whole a b bytes (λ xs. bytes ≡ xs) c e refl
-
-fed_front : (words : List (List ℕ)) (a b : Option (List ℕ)) (bytes front : List ℕ) → are_taken words ≡ true → IfSome a (λ xs. bytes ≡ xs) → Consumes a b front → Fed words bytes a b
-fed_front words a b bytes front e t c = record { told = t; given = front; front = c; unread = λ h. absurd (true≢false (sym e ∙ h)) }
-
-pub read_whole : (words : List (List ℕ)) (command : Command) (a b : Option (List ℕ)) (bytes : List ℕ) (before now : ℕ) (plan : Plan) → command_of words ≡ Some command → length bytes ≤ limit → Consumes a b bytes → IsAtEnd b → now ≡ before → IsInputPlan command bytes plan → Prepared words a b before now plan
-unfolding fed_front
-read_whole words command a b bytes before now plan e l c end same p = record {
-  bytes = bytes;
-  reading = p.reading;
-  is_reading = p.is_reading;
-  unread = false;
-  rose = λ h. cc;
-  same = λ h. same;
-  wanted = λ h. cc;
-  fed = fed_front words a b bytes bytes (one_taken words command e) (told_whole a b bytes c end) c;
-  is_read = λ t u. record { drained = λ m. end; passed = λ m. m };
-  is = p.is ∙ sym (ap (λ o. command_plan o bytes p.reading false) e);
-}
-
-pub read_failed : (words : List (List ℕ)) (command : Command) (a b : Option (List ℕ)) (front : List ℕ) (before now : ℕ) (plan : Plan) → command_of words ≡ Some command → Consumes a b front → Rose before now → plan ≡ stopped (ReadFault input_name) → Prepared words a b before now plan
-read_failed words command a b front before now plan e c rose p = record {
-  bytes = known a front;
-  reading = text_reading (known a front);
-  is_reading = text_is_read (known a front);
-  unread = true;
-  rose = λ h. rose;
-  same = λ h. cc;
-  wanted = λ h. one_taken words command e;
-  fed = fed_front words a b (known a front) front (one_taken words command e) (known_told a front) c;
-  is_read = λ t u. cc;
-  is = p ∙ sym (ap (λ o. command_plan o (known a front) (text_reading (known a front)) true) e);
-}
 
 -- what a long front is of is long
 long : (a b : Option (List ℕ)) (front : List ℕ) → Consumes a b front → limit < length front → limit < length (known a front)
@@ -101,62 +72,104 @@ long None b front c l = l
 long (Some xs) None front c l = absurd c
 long (Some xs) (Some ys) front c l = omega (arith, l, ap length c, length-append front ys)
 
-pub too_large : (words : List (List ℕ)) (command : Command) (a b : Option (List ℕ)) (front : List ℕ) (before now : ℕ) (plan : Plan) → command_of words ≡ Some command → Consumes a b front → limit < length front → now ≡ before → plan ≡ stopped (TooLarge input_name) → Prepared words a b before now plan
-unfolding fed_front
-too_large words command a b front before now plan e c l same p = record {
-  bytes = known a front;
-  reading = text_reading (known a front);
-  is_reading = text_is_read (known a front);
-  unread = false;
-  rose = λ h. cc;
-  same = λ h. same;
-  wanted = λ h. cc;
-  fed = fed_front words a b (known a front) front (one_taken words command e) (known_told a front) c;
-  is_read = λ t u. record { drained = λ m. absurd (omega (arith, m, long a b front c l)); passed = λ m. l };
-  is = p ∙ (large_plan command (known a front) (text_reading (known a front)) (long a b front c l) ∙ sym (ap (λ o. command_plan o (known a front) (text_reading (known a front)) false) e));
-}
+-- the words ask for this command
+module _ (asked : Asked) (command : Command) (taken : asked.command ≡ Some command) (a b : Option (List ℕ)) (before now : ℕ) where
+  is_taken : is_some asked.command ≡ true
+  is_taken = ap is_some taken
 
-pub out_of_memory : (words : List (List ℕ)) (command : Command) (a b : Option (List ℕ)) (front : List ℕ) (before now : ℕ) → command_of words ≡ Some command → Consumes a b front → now ≡ before → Unprepared words a b before now
-out_of_memory words command a b front before now e c same = record {
-  bytes = known a front;
-  reading = text_reading (known a front);
-  is_reading = text_is_read (known a front);
-  unread = false;
-  rose = λ h. cc;
-  same = λ h. same;
-  fed = fed_front words a b (known a front) front (one_taken words command e) (known_told a front) c;
-}
+  fed_front : (bytes front : List ℕ) → IfSome a (λ xs. bytes ≡ xs) → Consumes a b front → Fed asked.command bytes a b
+  fed_front bytes front t c = record { told = t; given = front; front = c; unread = λ h. absurd (true≢false (sym is_taken ∙ ap is_some h)) }
 
-pub failed_and_out : (words : List (List ℕ)) (command : Command) (a b : Option (List ℕ)) (front : List ℕ) (before now : ℕ) → command_of words ≡ Some command → Consumes a b front → Rose before now → Unprepared words a b before now
-failed_and_out words command a b front before now e c rose = record {
-  bytes = known a front;
-  reading = text_reading (known a front);
-  is_reading = text_is_read (known a front);
-  unread = true;
-  rose = λ h. rose;
-  same = λ h. cc;
-  fed = fed_front words a b (known a front) front (one_taken words command e) (known_told a front) c;
-}
+  plan_as : (bytes : List ℕ) (reading : Reading) (r : Reached) (unread : Bool) (plan : Plan) → plan ≡ plan_of (Some command) (names_of asked.shelf) bytes reading r unread → plan ≡ plan_of asked.command (names_of asked.shelf) bytes reading r unread
+  plan_as bytes reading r unread plan e = e ∙ sym (ap (λ o. plan_of o (names_of asked.shelf) bytes reading r unread) taken)
 
--- the same of what `read_all` answers
-module _ (words : List (List ℕ)) (command : Command) (a b : Option (List ℕ)) (before now : ℕ) (r : Result (Vec ℕ Global) ReadStop) (h : ReadsAll limit a b before now r) (taken : command_of words ≡ Some command) where
-  at_read : (v : Result (Vec ℕ Global) ReadStop) → r ≡ v → ReadsAll limit a b before now v
-  at_read v e = subst (λ x. ReadsAll limit a b before now x) e h
+  kept_as : (after : List PluginSeen) (bytes : List ℕ) (reading : Reading) (r : Reached) (stage : Stage) → Kept asked.shelf after (chars bytes) (turn_of (Some command) bytes reading false) r stage → Kept asked.shelf after (chars bytes) (turn_of asked.command bytes reading false) r stage
+  kept_as after bytes reading r stage k = subst (λ o. Kept asked.shelf after (chars bytes) (turn_of o bytes reading false) r stage) (sym taken) k
 
-  pub prepared_whole : (bytes : Vec ℕ Global) (q : Result P.Plan AllocError) → r ≡ Ok bytes → IfOk q (λ p. IsInputPlan command bytes.items (plan_seen p)) → Prepares words a b before now q
-  prepared_whole bytes (Ok p) e k = let d = at_read (Ok bytes) e in read_whole words command a b bytes.items before now (plan_seen p) taken d.2 d.0 d.1 d.3 k
-  prepared_whole bytes (Err x) e k = let d = at_read (Ok bytes) e in record { bytes = bytes.items; reading = text_reading bytes.items; is_reading = text_is_read bytes.items; unread = false; rose = λ z. cc; same = λ z. d.3; fed = fed_front words a b bytes.items bytes.items (one_taken words command taken) (told_whole a b bytes.items d.0 d.1) d.0 }
+  read_whole : (after : List PluginSeen) (bytes : List ℕ) (stage : Stage) → length bytes ≤ limit → Consumes a b bytes → IsAtEnd b → now ≡ before → IsInputPlan command asked.shelf after bytes stage → IsPrepared asked after a b before now stage
+  unfolding fed_front
+  read_whole after bytes stage l c end same p = record {
+    bytes = bytes;
+    reading = p.reading;
+    is_reading = p.is_reading;
+    unread = false;
+    rose = λ h. cc;
+    same = λ h. same;
+    wanted = λ h. cc;
+    fed = fed_front bytes bytes (told_whole a b bytes c end) c;
+    is_read = λ t u. record { drained = λ m. end; passed = λ m. m };
+    reached = p.reached;
+    kept = kept_as after bytes p.reading p.reached stage p.kept;
+    is = plan_as bytes p.reading p.reached false stage.plan p.is;
+  }
 
-  pub few_read : (bytes : Vec ℕ Global) → r ≡ Ok bytes → length bytes.items ≤ limit
-  few_read bytes e = (at_read (Ok bytes) e).2
+  read_failed : (front : List ℕ) (stage : Stage) (plan : Plan) → Consumes a b front → Rose before now → stage ≡ unwalked plan → plan ≡ stopped (ReadFault input_name) → IsPrepared asked asked.shelf a b before now stage
+  read_failed front stage plan c rose i k = record {
+    bytes = known a front;
+    reading = text_reading (known a front);
+    is_reading = text_is_read (known a front);
+    unread = true;
+    rose = λ h. rose;
+    same = λ h. cc;
+    wanted = λ h. is_taken;
+    fed = fed_front (known a front) front (known_told a front) c;
+    is_read = λ t u. cc;
+    reached = nothing;
+    kept = kept_none asked.shelf (chars (known a front)) (turn_of asked.command (known a front) (text_reading (known a front)) true) nothing stage plan (ap (λ o. turn_of o (known a front) (text_reading (known a front)) true) taken ∙ unread_turn command (known a front) (text_reading (known a front))) i;
+    is = ap (λ z. z.plan) i ∙ plan_as (known a front) (text_reading (known a front)) nothing true plan k;
+  }
 
-  pub prepared_unread : (s : ReadStop) (q : Result P.Plan AllocError) → r ≡ Err s → s ≡ RS.ReadFault → IfOk q (λ p. plan_seen p ≡ stopped (ReadFault input_name)) → Prepares words a b before now q
-  prepared_unread s (Ok p) e f k = let d = at_read (Err RS.ReadFault) (e ∙ ap (λ x. Err x) f) in read_failed words command a b d.0 before now (plan_seen p) taken d.1 d.3 k
-  prepared_unread s (Err x) e f k = let d = at_read (Err RS.ReadFault) (e ∙ ap (λ x. Err x) f) in failed_and_out words command a b d.0 before now taken d.1 d.3
+  too_large : (front : List ℕ) (stage : Stage) (plan : Plan) → Consumes a b front → limit < length front → now ≡ before → stage ≡ unwalked plan → plan ≡ stopped (TooLarge input_name) → IsPrepared asked asked.shelf a b before now stage
+  unfolding fed_front
+  too_large front stage plan c l same i k = record {
+    bytes = known a front;
+    reading = text_reading (known a front);
+    is_reading = text_is_read (known a front);
+    unread = false;
+    rose = λ h. cc;
+    same = λ h. same;
+    wanted = λ h. cc;
+    fed = fed_front (known a front) front (known_told a front) c;
+    is_read = λ t u. record { drained = λ m. absurd (omega (arith, m, long a b front c l)); passed = λ m. l };
+    reached = nothing;
+    kept = kept_as asked.shelf (known a front) (text_reading (known a front)) nothing stage (kept_none asked.shelf (chars (known a front)) (turn_of (Some command) (known a front) (text_reading (known a front)) false) nothing stage plan (large_turn command (known a front) (text_reading (known a front)) (long a b front c l)) i);
+    is = ap (λ z. z.plan) i ∙ plan_as (known a front) (text_reading (known a front)) nothing false plan (k ∙ large_plan command (names_of asked.shelf) (known a front) (text_reading (known a front)) nothing (long a b front c l));
+  }
 
-  pub prepared_large : (s : ReadStop) (q : Result P.Plan AllocError) → r ≡ Err s → s ≡ RS.TooLarge → IfOk q (λ p. plan_seen p ≡ stopped (TooLarge input_name)) → Prepares words a b before now q
-  prepared_large s (Ok p) e f k = let d = at_read (Err RS.TooLarge) (e ∙ ap (λ x. Err x) f) in too_large words command a b d.0 before now (plan_seen p) taken d.1 d.2 d.3 k
-  prepared_large s (Err x) e f k = let d = at_read (Err RS.TooLarge) (e ∙ ap (λ x. Err x) f) in out_of_memory words command a b d.0 before now taken d.1 d.3
+  out_of_memory : (front : List ℕ) → Consumes a b front → (now ≡ before) ⊎ Rose before now → Unprepared asked asked.shelf a b before now
+  out_of_memory front c reads = record { bytes = known a front; reads = reads; fed = fed_front (known a front) front (known_told a front) c; visits = cut_none asked.shelf asked.command (chars (known a front)) }
 
-  pub unprepared_memory : (s : ReadStop) (x : AllocError) → r ≡ Err s → s ≡ RS.Memory x → Unprepared words a b before now
-  unprepared_memory s x e f = let d = at_read (Err (RS.Memory x)) (e ∙ ap (λ y. Err y) f) in out_of_memory words command a b d.0 before now taken d.1 d.2
+  failed_by : (r : Stages) → IsErr r → Unprepared asked asked.shelf a b before now → Prepares asked asked.shelf a b before now r
+  failed_by (Ok p) h u = absurd (false≢true h)
+  failed_by (Err e) h u = u
+
+  -- the same of what `read_all` answers
+  at_read : (r v : Result (Vec ℕ Global) ReadStop) → ReadsAll limit a b before now r → r ≡ v → ReadsAll limit a b before now v
+  at_read r v h e = subst (λ x. ReadsAll limit a b before now x) e h
+
+  pub few_read : (r : Result (Vec ℕ Global) ReadStop) (bytes : Vec ℕ Global) → ReadsAll limit a b before now r → r ≡ Ok bytes → length bytes.items ≤ limit
+  few_read r bytes h e = (at_read r (Ok bytes) h e).2
+
+  pub prepared_whole : (r : Result (Vec ℕ Global) ReadStop) (after : List PluginSeen) (bytes : Vec ℕ Global) (q : Stages) → ReadsAll limit a b before now r → r ≡ Ok bytes → PlansInput command asked.shelf after bytes.items q → Prepares asked after a b before now q
+  prepared_whole r after bytes (Ok p) h e k = let d = at_read r (Ok bytes) h e in read_whole after bytes.items (stage_seen p) d.2 d.0 d.1 d.3 k
+  prepared_whole r after bytes (Err x) h e k = let d = at_read r (Ok bytes) h e in record {
+    bytes = bytes.items;
+    reads = inl d.3;
+    fed = fed_front bytes.items bytes.items (told_whole a b bytes.items d.0 d.1) d.0;
+    visits = subst (λ o. CutOff asked.shelf after o (chars bytes.items)) (sym taken) k;
+  }
+
+  pub prepared_unread : (r : Result (Vec ℕ Global) ReadStop) (s : ReadStop) (p : S.Prepared) (plan : Plan) → ReadsAll limit a b before now r → r ≡ Err s → s ≡ RS.ReadFault → stage_seen p ≡ unwalked plan → plan ≡ stopped (ReadFault input_name) → Prepares asked asked.shelf a b before now (Ok p)
+  prepared_unread r s p plan h e f i k = let d = at_read r (Err RS.ReadFault) h (e ∙ ap (λ x. Err x) f) in read_failed d.0 (stage_seen p) plan d.1 d.3 i k
+
+  pub failed_unread : (r : Result (Vec ℕ Global) ReadStop) (s : ReadStop) (q : Stages) → ReadsAll limit a b before now r → r ≡ Err s → s ≡ RS.ReadFault → IsErr q → Prepares asked asked.shelf a b before now q
+  failed_unread r s q h e f x = let d = at_read r (Err RS.ReadFault) h (e ∙ ap (λ y. Err y) f) in failed_by q x (out_of_memory d.0 d.1 (inr d.3))
+
+  pub prepared_large : (r : Result (Vec ℕ Global) ReadStop) (s : ReadStop) (p : S.Prepared) (plan : Plan) → ReadsAll limit a b before now r → r ≡ Err s → s ≡ RS.TooLarge → stage_seen p ≡ unwalked plan → plan ≡ stopped (TooLarge input_name) → Prepares asked asked.shelf a b before now (Ok p)
+  prepared_large r s p plan h e f i k = let d = at_read r (Err RS.TooLarge) h (e ∙ ap (λ x. Err x) f) in too_large d.0 (stage_seen p) plan d.1 d.2 d.3 i k
+
+  pub failed_large : (r : Result (Vec ℕ Global) ReadStop) (s : ReadStop) (q : Stages) → ReadsAll limit a b before now r → r ≡ Err s → s ≡ RS.TooLarge → IsErr q → Prepares asked asked.shelf a b before now q
+  failed_large r s q h e f x = let d = at_read r (Err RS.TooLarge) h (e ∙ ap (λ y. Err y) f) in failed_by q x (out_of_memory d.0 d.1 (inl d.3))
+
+  pub unprepared_memory : (r : Result (Vec ℕ Global) ReadStop) (s : ReadStop) (x : AllocError) → ReadsAll limit a b before now r → r ≡ Err s → s ≡ RS.Memory x → Unprepared asked asked.shelf a b before now
+  unprepared_memory r s x h e f = let d = at_read r (Err (RS.Memory x)) h (e ∙ ap (λ y. Err y) f) in out_of_memory d.0 d.1 (inl d.2)

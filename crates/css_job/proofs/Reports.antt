@@ -4,7 +4,7 @@ use Rattle.std.proofs.lemmas.List.Sums.{sum_by-cons, count_by-le-length}
 use Rattle.std.specs.Prelude.{◌==◌, encode_utf8_all}
 use Rattle.std.proofs.lemmas.Bool.Decides.{nat_tests}
 use Rattle.std.specs.List.{flat_map}
-use Rattle.css_job.specs.Faults.{line}
+use Rattle.css_job.specs.Trace.{line}
 use Rattle.css_job.specs.Warnings.{Warning}
 use Rattle.css_job.specs.Report.{is_error, is_warning, warning_line, total_line, report}
 

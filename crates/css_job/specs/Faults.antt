@@ -4,13 +4,11 @@ use Rattle.css_text.specs.declared.stop.TextFault.{TextFault}
 use Rattle.css_text.specs.declared.stop.TextFault.TheVariants as T
 use Rattle.css_tree.specs.declared.fault.SyntaxKind.{SyntaxKind}
 use Rattle.css_tree.specs.declared.fault.SyntaxKind.TheVariants as K
+use Rattle.css_job.specs.Trace.{line, moment_text}
 use Rattle.css_job.specs.declared.fault.Fault.{Fault}
-use Rattle.css_job.specs.declared.fault.Fault.TheVariants.{Usage, ReadFault, WriteFault, TooLarge, NotUtf8, Syntax}
+use Rattle.css_job.specs.declared.fault.Fault.TheVariants.{Usage, ReadFault, WriteFault, TooLarge, NotUtf8, Syntax, PluginFailed, BudgetSpent, EditBudgetSpent}
 use Rattle.css_job.specs.declared.target.Target.{Target}
 use Rattle.css_job.specs.declared.target.Target.TheVariants.{StdOut, StdErr}
-
-abbrev pub line : List ℕ → List ℕ
-line s = s ++ 10 ∷ []
 
 abbrev pub input_name : List ℕ
 input_name = codes "<stdin>"
@@ -30,14 +28,17 @@ kind_name K.UnknownWord = codes "UnknownWord"
 kind_name K.AtRuleWithoutName = codes "AtRuleWithoutName"
 kind_name K.TooDeep = codes "TooDeep"
 
--- a name is a list of characters, and a line one of bytes
-abbrev pub line_of : Fault → List ℕ
-line_of Usage = line (codes "usage: csswork transform|lint|sample")
-line_of (ReadFault name) = line (codes "csswork: cannot read " ++ encode_utf8_all name)
-line_of (WriteFault name) = line (codes "csswork: cannot write " ++ encode_utf8_all name)
-line_of (TooLarge name) = codes "csswork: " ++ (encode_utf8_all name ++ line (codes " has more than 8388608 bytes"))
-line_of (NotUtf8 name at) = codes "csswork: " ++ (encode_utf8_all name ++ (codes " is not UTF-8 at byte " ++ line (decimal at)))
-line_of (Syntax name fault) = codes "csswork: " ++ (encode_utf8_all name ++ (codes ":" ++ (decimal fault.place.line ++ (codes ":" ++ (decimal fault.place.column ++ (codes ": " ++ line (kind_name fault.kind)))))))
+-- The line of a fault, where the plugin that was called last has that name. A name is a list of characters, and a line one of bytes.
+abbrev pub line_of : List ℕ → Fault → List ℕ
+line_of plugin Usage = line (codes "usage: csswork transform|lint|sample")
+line_of plugin (ReadFault name) = line (codes "csswork: cannot read " ++ encode_utf8_all name)
+line_of plugin (WriteFault name) = line (codes "csswork: cannot write " ++ encode_utf8_all name)
+line_of plugin (TooLarge name) = codes "csswork: " ++ (encode_utf8_all name ++ line (codes " has more than 8388608 bytes"))
+line_of plugin (NotUtf8 name at) = codes "csswork: " ++ (encode_utf8_all name ++ (codes " is not UTF-8 at byte " ++ line (decimal at)))
+line_of plugin (Syntax name fault) = codes "csswork: " ++ (encode_utf8_all name ++ (codes ":" ++ (decimal fault.place.line ++ (codes ":" ++ (decimal fault.place.column ++ (codes ": " ++ line (kind_name fault.kind)))))))
+line_of plugin (PluginFailed text moment) = codes "csswork: plugin " ++ (encode_utf8_all plugin ++ (codes " failed at " ++ (moment_text moment ++ (codes ": " ++ line (encode_utf8_all text)))))
+line_of plugin (BudgetSpent calls next) = codes "csswork: budget of " ++ (decimal calls ++ (codes " calls spent before " ++ line (moment_text next)))
+line_of plugin (EditBudgetSpent edits budget at) = codes "csswork: edit budget of " ++ (decimal budget ++ (codes " passed with " ++ (decimal edits ++ (codes " edits at " ++ line (moment_text at)))))
 
 -- how many bytes stand before the first wrong sequence of a text
 abbrev pub wrong_at : TextFault → ℕ
@@ -50,3 +51,6 @@ status_of (WriteFault name) = 1
 status_of (TooLarge name) = 1
 status_of (NotUtf8 name at) = 1
 status_of (Syntax name fault) = 1
+status_of (PluginFailed text moment) = 1
+status_of (BudgetSpent calls next) = 1
+status_of (EditBudgetSpent edits budget at) = 1

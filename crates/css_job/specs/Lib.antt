@@ -1,4 +1,10 @@
 pub mod Words
+pub mod GivenSeen
+pub mod NamesLeft
+pub mod WordsExamples
+pub mod CommandSeen
+pub mod Trace
+pub mod TraceExamples
 pub mod Faults
 pub mod Reading
 pub mod Warnings
@@ -6,10 +12,13 @@ pub mod Shown
 pub mod Report
 pub mod Plan
 pub mod Answer
+pub mod Walked
 pub mod Outside
 pub mod Causes
 pub mod Pinned
 pub mod Walk
 pub mod Stages
 pub mod Laws
+pub mod OneOutcome
+pub mod OneOutcomeExamples
 pub mod Examples

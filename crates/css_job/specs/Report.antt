@@ -4,7 +4,7 @@ use Rattle.std.specs.List.{flat_map}
 use Rattle.css_text.specs.declared.text.Place.{Place}
 use Rattle.css_job.specs.declared.warning.Severity.{Severity}
 use Rattle.css_job.specs.declared.warning.Severity.TheVariants as S
-use Rattle.css_job.specs.Faults.{line}
+use Rattle.css_job.specs.Trace.{line}
 use Rattle.css_job.specs.Warnings.{Warning}
 
 abbrev pub severity_name : Severity → List ℕ

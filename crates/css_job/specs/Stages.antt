@@ -1,5 +1,5 @@
 -- The two stages of a run: all that is read and computed, and then all that is written.
-use Rattle.std.specs.Prelude.{ℕ, ◌≡◌, ◌<◌, ◌≤◌, ◌⊎◌, List, [], ◌∷◌, ◌++◌, length, map, Bool, true, false, Option, Some, None, Result, Ok, Err, encode_utf8_all}
+use Rattle.std.specs.Prelude.{ℕ, ◌≡◌, ◌<◌, ◌≤◌, ◌⊎◌, List, [], ◌∷◌, ◌++◌, length, map, Bool, true, false, Option, Some, None, is_some, Result, Ok, Err, encode_utf8_all}
 use Rattle.std.specs.Io.KnownBytes.{Appends}
 use Rattle.std.specs.declared.alloc.AllocError.{AllocError}
 use Rattle.io_edge.specs.Causes.{Rose}
@@ -7,16 +7,21 @@ use Rattle.io_edge.specs.declared.edge.Sink as sink
 use Rattle.io_edge.specs.declared.edge.WriteStop.{WriteStop}
 use Rattle.io_edge.specs.declared.edge.WriteStop.TheVariants.{WriteFault, Memory}
 use Rattle.std.specs.Str.{chars}
-use Rattle.css_job.specs.Words.{are_taken, takes_input}
+use Rattle.node_store.specs.declared.item.Item.{Item}
+use Rattle.node_store.specs.Forest.{Forest}
+use Rattle.plugin_api.specs.Shelf.{PluginSeen}
+use Rattle.visitor_walk.specs.Heard.{Hears}
+use Rattle.css_job.specs.Words.{Options, Command, Transform, Lint}
 use Rattle.css_job.specs.Reading.{Reading, IsReadingOf}
 use Rattle.css_job.specs.Faults.{line_of, name_of}
-use Rattle.css_job.specs.Plan.{Piece, Plan, plan_of, input_plan, text_plan}
-use Rattle.css_job.specs.declared.words.Command.{Command}
+use Rattle.css_job.specs.Plan.{Piece, Plan, Reached, Turn, plan_of, input_plan, text_plan, turn_of, kept_log}
+use Rattle.css_job.specs.declared.prepared.Prepared as S
 use Rattle.css_job.specs.Answer.{finish_with, begun, bytes_for}
-use Rattle.css_job.specs.Outside.{Fed, IsRead, Took, TookFront}
+use Rattle.css_job.specs.Outside.{Asked, Fed, IsRead, Took, TookFront, Heard, IsCutLog, names_of}
+use Rattle.css_job.specs.Walked.{IsWalked, IsKept}
 use Rattle.css_job.specs.declared.fault.Fault.{Fault}
 use Rattle.css_job.specs.declared.fault.Fault.TheVariants as F
-use Rattle.css_job.specs.declared.run.Ended.{Ended}
+use Rattle.css_job.specs.declared.carry_out.Settled.{Settled}
 use Rattle.css_job.specs.declared.plan.Write.{Write}
 use Rattle.css_job.specs.declared.plan.Plan as P
 use Rattle.css_job.specs.declared.target.Target.{Target}
@@ -26,50 +31,88 @@ abbrev pub piece_of : Write → Piece
 piece_of w = record { to = w.to; bytes = encode_utf8_all w.text }
 
 abbrev pub plan_seen : P.Plan → Plan
-plan_seen p = record { fault = p.fault; status = p.status; writes = map piece_of p.writes.items }
+plan_seen p = record { fault = p.fault; caller = p.caller; status = p.status; writes = map piece_of p.writes.items }
 
 -- a plan that writes one text
 abbrev pub writing : Target → List ℕ → ℕ → Plan
-writing to text status = record { fault = None; status = status; writes = record { to = to; bytes = encode_utf8_all text } ∷ [] }
+writing to text status = record { fault = None; caller = []; status = status; writes = record { to = to; bytes = encode_utf8_all text } ∷ [] }
+
+-- what a stage did: its plan, the log, the work, and the shelf
+pub record Stage : Type 0 where
+  pub plan : Plan
+  pub log : List Item
+  pub work : Option Forest
+
+abbrev pub stage_seen : S.Prepared → Stage
+stage_seen p = record { plan = plan_seen p.plan; log = p.log.items; work = p.work }
+
+-- the walk of a text's reading and what is kept of it
+pub record Kept (shelf after : List PluginSeen) (s : List ℕ) (turn : Option Turn) (r : Reached) (stage : Stage) : Type 0 where
+  pub walked : IsWalked shelf s turn r
+  pub log : stage.log ≡ kept_log turn r
+  pub work : IsKept s turn r stage.work
+  pub heard : Heard shelf after stage.log
+
+-- the walk that a command makes of a text
+abbrev pub command_turn : Command → Reading → Option Turn
+command_turn (Transform o) (Ok t) = Some (record { options = o; tree = t })
+command_turn _ reading = None
 
 -- the plan of a command for a text, for what that is read as
-pub record IsTextPlan (command : Command) (s : List ℕ) (plan : Plan) : Type 0 where
+pub record IsTextPlan (command : Command) (shelf after : List PluginSeen) (s : List ℕ) (stage : Stage) : Type 0 where
   pub reading : Reading
   pub is_reading : IsReadingOf s reading
-  pub is : plan ≡ text_plan command s reading
+  pub reached : Reached
+  pub kept : Kept shelf after s (command_turn command reading) reached stage
+  pub is : stage.plan ≡ text_plan command (names_of shelf) s reading reached
+
+-- the visitors before a want of memory
+pub record CutOff (shelf after : List PluginSeen) (command : Option Command) (s : List ℕ) : Type 0 where
+  pub log : List Item
+  pub cut : (log ≡ []) ⊎ IsCutLog shelf command s log
+  pub heard : Hears {A = Unit {0}} (Err (record {})) 0 log shelf after
+
+abbrev pub Planned : Command → List PluginSeen → List PluginSeen → List ℕ → Result S.Prepared AllocError → Type 0
+Planned command shelf after s (Ok p) = IsTextPlan command shelf after s (stage_seen p)
+Planned command shelf after s (Err e) = CutOff shelf after (Some command) s
 
 -- the plan of a command for an input that was read whole, for what its text is read as
-pub record IsInputPlan (command : Command) (bytes : List ℕ) (plan : Plan) : Type 0 where
+pub record IsInputPlan (command : Command) (shelf after : List PluginSeen) (bytes : List ℕ) (stage : Stage) : Type 0 where
   pub reading : Reading
   pub is_reading : IsReadingOf (chars bytes) reading
-  pub is : plan ≡ input_plan command bytes reading
+  pub reached : Reached
+  pub kept : Kept shelf after (chars bytes) (turn_of (Some command) bytes reading false) reached stage
+  pub is : stage.plan ≡ input_plan command (names_of shelf) bytes reading reached
+
+abbrev pub PlansInput : Command → List PluginSeen → List PluginSeen → List ℕ → Result S.Prepared AllocError → Type 0
+PlansInput command shelf after bytes (Ok p) = IsInputPlan command shelf after bytes (stage_seen p)
+PlansInput command shelf after bytes (Err e) = CutOff shelf after (Some command) (chars bytes)
 
 -- the first stage: the input is read as far as the words want it, and the plan is that of the input
-pub record Prepared (words : List (List ℕ)) (old new : Option (List ℕ)) (before now : ℕ) (plan : Plan) : Type 0 where
+pub record IsPrepared (asked : Asked) (after : List PluginSeen) (old new : Option (List ℕ)) (before now : ℕ) (stage : Stage) : Type 0 where
   pub bytes : List ℕ
   pub reading : Reading
   pub is_reading : IsReadingOf (chars bytes) reading
   pub unread : Bool
   pub rose : unread ≡ true → Rose before now
   pub same : unread ≡ false → now ≡ before
-  pub wanted : unread ≡ true → are_taken words ≡ true
-  pub fed : Fed words bytes old new
-  pub is_read : takes_input words ≡ true → unread ≡ false → IsRead bytes fed.given new
-  pub is : plan ≡ plan_of words bytes reading unread
+  pub wanted : unread ≡ true → is_some asked.command ≡ true
+  pub fed : Fed asked.command bytes old new
+  pub is_read : is_some asked.command ≡ true → unread ≡ false → IsRead bytes fed.given new
+  pub reached : Reached
+  pub kept : Kept asked.shelf after (chars bytes) (turn_of asked.command bytes reading unread) reached stage
+  pub is : stage.plan ≡ plan_of asked.command (names_of asked.shelf) bytes reading reached unread
 
 -- the first stage, where it wanted memory
-pub record Unprepared (words : List (List ℕ)) (old new : Option (List ℕ)) (before now : ℕ) : Type 0 where
+pub record Unprepared (asked : Asked) (after : List PluginSeen) (old new : Option (List ℕ)) (before now : ℕ) : Type 0 where
   pub bytes : List ℕ
-  pub reading : Reading
-  pub is_reading : IsReadingOf (chars bytes) reading
-  pub unread : Bool
-  pub rose : unread ≡ true → Rose before now
-  pub same : unread ≡ false → now ≡ before
-  pub fed : Fed words bytes old new
+  pub reads : (now ≡ before) ⊎ Rose before now
+  pub fed : Fed asked.command bytes old new
+  pub visits : CutOff asked.shelf after asked.command (chars bytes)
 
-abbrev pub Prepares : List (List ℕ) → Option (List ℕ) → Option (List ℕ) → ℕ → ℕ → Result P.Plan AllocError → Type 0
-Prepares words old new before now (Ok plan) = Prepared words old new before now (plan_seen plan)
-Prepares words old new before now (Err e) = Unprepared words old new before now
+abbrev pub Prepares : Asked → List PluginSeen → Option (List ℕ) → Option (List ℕ) → ℕ → ℕ → Result S.Prepared AllocError → Type 0
+Prepares asked after old new before now (Ok p) = IsPrepared asked after old new before now (stage_seen p)
+Prepares asked after old new before now (Err e) = Unprepared asked after old new before now
 
 -- both sinks at a moment
 pub record Sinks : Type 0 where
@@ -113,11 +156,11 @@ WritesEach pieces old new (Ok (Some t)) = Broken t pieces old new × RoseAt t ol
 WritesEach pieces old new (Err e) = (t : Target) × Broken t pieces old new × Same old new
 
 -- the last line, where one is to be written
-abbrev pub last_line : Option Fault → Option Target → List ℕ
-last_line None failed = []
-last_line (Some f) None = line_of f
-last_line (Some f) (Some StdOut) = line_of f
-last_line (Some f) (Some StdErr) = []
+abbrev pub last_line : List ℕ → Option Fault → Option Target → List ℕ
+last_line caller None failed = []
+last_line caller (Some f) None = line_of caller f
+last_line caller (Some f) (Some StdOut) = line_of caller f
+last_line caller (Some f) (Some StdErr) = []
 
 -- a line of which a front went out, and then a write failed
 pub record Cut (text : List ℕ) (old new : Option (List ℕ)) (before now : ℕ) : Type 0 where
@@ -154,23 +197,23 @@ Blames (Some StdOut) old new = Rose old.outs new.outs × (old.errs ≤ new.errs)
 Blames (Some StdErr) old new = (new.outs ≡ old.outs) × Rose old.errs new.errs
 
 -- the second stage
-pub record Carried (plan : Plan) (old new : Sinks) (ended : Ended) : Type 0 where
+pub record Carried (plan : Plan) (old new : Sinks) (ended : Settled) : Type 0 where
   pub failed : Option Target
   pub blamed : Blames failed old new
   pub quiet : (f : Fault) → plan.fault ≡ Some f → failed ≡ Some StdOut → ⊥
-  pub status : ended.status ≡ (finish_with plan.fault plan.status plan.writes failed).status
-  pub fault : ended.fault ≡ (finish_with plan.fault plan.status plan.writes failed).fault
-  pub out : Took (finish_with plan.fault plan.status plan.writes failed).out old.out new.out old.outs new.outs
-  pub err : Took (finish_with plan.fault plan.status plan.writes failed).err old.err new.err old.errs new.errs
+  pub status : ended.status ≡ (finish_with plan.fault plan.caller plan.status plan.writes failed).status
+  pub fault : ended.fault ≡ (finish_with plan.fault plan.caller plan.status plan.writes failed).fault
+  pub out : Took (finish_with plan.fault plan.caller plan.status plan.writes failed).out old.out new.out old.outs new.outs
+  pub err : Took (finish_with plan.fault plan.caller plan.status plan.writes failed).err old.err new.err old.errs new.errs
 
 -- the second stage, where it wanted memory
 pub record Stranded (plan : Plan) (old new : Sinks) : Type 0 where
   pub failed : Option Target
   pub blamed : Blames failed old new
   pub quiet : (f : Fault) → plan.fault ≡ Some f → failed ≡ Some StdOut → ⊥
-  pub out : TookFront (finish_with plan.fault plan.status plan.writes failed).out old.out new.out
-  pub err : TookFront (finish_with plan.fault plan.status plan.writes failed).err old.err new.err
+  pub out : TookFront (finish_with plan.fault plan.caller plan.status plan.writes failed).out old.out new.out
+  pub err : TookFront (finish_with plan.fault plan.caller plan.status plan.writes failed).err old.err new.err
 
-abbrev pub CarriesOut : Plan → Sinks → Sinks → Result Ended AllocError → Type 0
+abbrev pub CarriesOut : Plan → Sinks → Sinks → Result Settled AllocError → Type 0
 CarriesOut plan old new (Ok ended) = Carried plan old new ended
 CarriesOut plan old new (Err e) = Stranded plan old new

@@ -5,7 +5,6 @@ ghost use Rattle.css_job.specs.Stages.{plan_seen, piece_of, sinks, WritesOne, Wr
 
 use crate::fault::{Fault, fault_text};
 use crate::plan::{Plan, Write};
-use crate::run::Ended;
 use crate::target::{Target, target_name};
 use css_text::txt::Txt;
 use io_edge::edge::{Sink, WriteStop};
@@ -21,6 +20,13 @@ fn write_one<O: Sink, E: Sink>(write: &Write, out: &mut O, err: &mut E) -> Resul
         Target::StdOut => write_all(out, write.text.as_str().as_bytes()),
         Target::StdErr => write_all(err, write.text.as_str().as_bytes()),
     }
+}
+
+/// The status and the fault after the writes.
+#[derive(Drop)]
+pub struct Settled {
+    pub status: u8,
+    pub fault: Option<Fault>,
 }
 
 /// Makes the writes in order. It stops at the first that fails, and answers its target.
@@ -56,18 +62,18 @@ fn settle(
     fault: Option<Fault>,
     status: u8,
     failed: Option<Target>,
-) -> Result<Ended, AllocError>
-    ensures { IfOk result (λ ended. (ended.fault, ended.status) ≡ settled fault status failed) }
+) -> Result<Settled, AllocError>
+    ensures { IfOk result (λ s. (s.fault, s.status) ≡ settled fault status failed) }
 {
     match (fault, failed) {
         (None, Some(target)) => {
             let fault = write_fault(alloc, target)?;
-            Ok(Ended {
+            Ok(Settled {
                 status: 1,
                 fault: Some(fault),
             })
         }
-        (fault, _) => Ok(Ended { status, fault }),
+        (fault, _) => Ok(Settled { status, fault }),
     }
 }
 
@@ -86,11 +92,12 @@ fn say_line<E: Sink>(line: &str, err: &mut E) -> Result<(), AllocError>
 /// Writes the line of the fault, unless the sink that it would go to has failed.
 fn say_last<E: Sink>(
     alloc: Global,
+    caller: &Txt,
     fault: &Option<Fault>,
     failed: Option<Target>,
     err: &mut E,
 ) -> Result<(), AllocError>
-    ensures { SaysLast (last_line fault.now failed) (E.written err.old) (E.written err.new)
+    ensures { SaysLast (last_line caller.now fault.now failed) (E.written err.old) (E.written err.new)
         (E.faults err.old) (E.faults err.new) result }
 {
     match fault {
@@ -98,7 +105,7 @@ fn say_last<E: Sink>(
         Some(fault) => match failed {
             Some(Target::StdErr) => Ok(()),
             _ => {
-                let line = fault_text(alloc, fault)?;
+                let line = fault_text(alloc, caller, fault)?;
                 say_line(line.as_str(), err)
             }
         },
@@ -111,7 +118,7 @@ pub fn carry_out<O: Sink, E: Sink>(
     plan: Plan,
     out: &mut O,
     err: &mut E,
-) -> Result<Ended, AllocError>
+) -> Result<Settled, AllocError>
     requires { IsSound (plan_seen plan) }
     ensures { CarriesOut (plan_seen plan)
         (sinks O.Sink E.Sink out.old err.old)
@@ -119,6 +126,7 @@ pub fn carry_out<O: Sink, E: Sink>(
 {
     let Plan {
         fault,
+        caller,
         status,
         writes,
     } = plan;
@@ -126,12 +134,12 @@ pub fn carry_out<O: Sink, E: Sink>(
         Ok(failed) => failed,
         Err(error) => return Err(error),
     };
-    let ended = match settle(alloc, fault, status, failed) {
-        Ok(ended) => ended,
+    let settled = match settle(alloc, fault, status, failed) {
+        Ok(settled) => settled,
         Err(error) => return Err(error),
     };
-    match say_last(alloc, &ended.fault, failed, err) {
-        Ok(()) => Ok(ended),
+    match say_last(alloc, &caller, &settled.fault, failed, err) {
+        Ok(()) => Ok(settled),
         Err(error) => Err(error),
     }
 }

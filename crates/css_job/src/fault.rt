@@ -1,10 +1,13 @@
 // Why a run stops, and the line that says so.
-ghost use Rattle.std.specs.Prelude.{◌≡◌, IfOk, string_bytes};
+ghost use Rattle.std.specs.Prelude.{◌≡◌, ℕ, List, IfOk, string_bytes};
+ghost use Rattle.std.specs.Str.{chars};
 ghost use Rattle.css_job.specs.Faults.{line_of, kind_name};
 
+use crate::item_names::event_name;
 use css_text::text::Place;
 use css_text::txt::Txt;
 use css_tree::fault::{SyntaxFault, SyntaxKind};
+use node_store::item::Moment;
 use std::alloc::{AllocError, Global};
 
 /// Why a run ended before its command was carried out whole. The standard input is called `<stdin>`.
@@ -23,6 +26,14 @@ pub enum Fault {
     NotUtf8 { name: Txt, at: usize },
     /// The text of this file can't be read as a style sheet. The status is 1.
     Syntax { name: Txt, fault: SyntaxFault },
+    /// The call of a visitor at that moment failed with this text. The status is 1.
+    PluginFailed { text: Txt, moment: Moment },
+    /// As many calls were made as the budget allows, and one more was due at that moment. The
+    /// status is 1.
+    BudgetSpent { calls: u64, next: Moment },
+    /// The call at that moment came back with more edits in all than the budget allows. The status
+    /// is 1.
+    EditBudgetSpent { edits: u64, budget: u64, at: Moment },
 }
 
 /// The name of the kind of a fault.
@@ -43,14 +54,14 @@ pub fn kind_name(kind: SyntaxKind) -> &'static str
 }
 
 fn wrong_text(alloc: Global, name: &Txt, at: usize) -> Result<String, AllocError>
-    ensures { IfOk result (λ text. string_bytes text ≡ line_of (Fault.NotUtf8 name.now at)) }
+    ensures { IfOk result (λ text. (plugin : List ℕ) → string_bytes text ≡ line_of plugin (Fault.NotUtf8 name.now at)) }
 {
     let name = name.as_str();
     format!(in alloc; "csswork: {name} is not UTF-8 at byte {at}\n")
 }
 
 fn syntax_text(alloc: Global, name: &Txt, fault: SyntaxFault) -> Result<String, AllocError>
-    ensures { IfOk result (λ text. string_bytes text ≡ line_of (Fault.Syntax name.now fault)) }
+    ensures { IfOk result (λ text. (plugin : List ℕ) → string_bytes text ≡ line_of plugin (Fault.Syntax name.now fault)) }
 {
     let name = name.as_str();
     let Place { line, column } = fault.place;
@@ -58,13 +69,51 @@ fn syntax_text(alloc: Global, name: &Txt, fault: SyntaxFault) -> Result<String, 
     format!(in alloc; "csswork: {name}:{line}:{column}: {kind}\n")
 }
 
-/// The line that a run writes on a fault, with its line feed.
+fn failed_text(
+    alloc: Global,
+    plugin: &str,
+    text: &Txt,
+    moment: Moment,
+) -> Result<String, AllocError>
+    ensures { IfOk result (λ line. string_bytes line ≡ line_of (chars plugin.now) (Fault.PluginFailed text.now moment)) }
+{
+    let event = event_name(moment.event);
+    let node = moment.node.number();
+    let text = text.as_str();
+    format!(in alloc; "csswork: plugin {plugin} failed at {event} {node}: {text}\n")
+}
+
+fn budget_text(alloc: Global, calls: u64, next: Moment) -> Result<String, AllocError>
+    ensures { IfOk result (λ line. (plugin : List ℕ) → string_bytes line ≡ line_of plugin (Fault.BudgetSpent calls next)) }
+{
+    let event = event_name(next.event);
+    let node = next.node.number();
+    format!(in alloc; "csswork: budget of {calls} calls spent before {event} {node}\n")
+}
+
+fn edit_budget_text(
+    alloc: Global,
+    edits: u64,
+    budget: u64,
+    at: Moment,
+) -> Result<String, AllocError>
+    ensures { IfOk result (λ line. (plugin : List ℕ) → string_bytes line ≡ line_of plugin (Fault.EditBudgetSpent edits budget at)) }
+{
+    let event = event_name(at.event);
+    let node = at.node.number();
+    format!(in alloc;
+        "csswork: edit budget of {budget} passed with {edits} edits at {event} {node}\n"
+    )
+}
+
+/// The line that a run writes on a fault, with its line feed. `plugin` is the name of the plugin
+/// whose hook was called last.
 ///
 /// # Errors
 ///
 /// Only for want of memory.
-pub fn fault_text(alloc: Global, fault: &Fault) -> Result<String, AllocError>
-    ensures { IfOk result (λ text. string_bytes text ≡ line_of fault.now) }
+pub fn fault_text(alloc: Global, plugin: &Txt, fault: &Fault) -> Result<String, AllocError>
+    ensures { IfOk result (λ text. string_bytes text ≡ line_of plugin.now fault.now) }
 {
     match fault {
         Fault::Usage => String::from_str(alloc, "usage: csswork transform|lint|sample\n"),
@@ -82,5 +131,10 @@ pub fn fault_text(alloc: Global, fault: &Fault) -> Result<String, AllocError>
         }
         Fault::NotUtf8 { name, at } => wrong_text(alloc, name, *at),
         Fault::Syntax { name, fault } => syntax_text(alloc, name, *fault),
+        Fault::PluginFailed { text, moment } => failed_text(alloc, plugin.as_str(), text, *moment),
+        Fault::BudgetSpent { calls, next } => budget_text(alloc, *calls, *next),
+        Fault::EditBudgetSpent { edits, budget, at } => {
+            edit_budget_text(alloc, *edits, *budget, *at)
+        }
     }
 }

@@ -21,6 +21,8 @@ pub struct Write {
 pub struct Plan {
     /// What stopped the run before its writes, if anything did.
     pub fault: Option<Fault>,
+    /// The name of the plugin whose hook was called last; empty where none was.
+    pub caller: Txt,
     /// The exit status, if no write fails.
     pub status: u8,
     pub writes: Vec<Write>,
@@ -33,6 +35,7 @@ pub fn stop(alloc: Global, fault: Fault, status: u8) -> Plan
 {
     Plan {
         fault: Some(fault),
+        caller: Txt::from_string(String::new(alloc)),
         status,
         writes: Vec::new(alloc),
     }
@@ -50,6 +53,7 @@ pub fn one_write(alloc: Global, to: Target, text: Txt, status: u8) -> Result<Pla
     writes.push(Write { to, text })?;
     Ok(Plan {
         fault: None,
+        caller: Txt::from_string(String::new(alloc)),
         status,
         writes,
     })

@@ -1,19 +1,14 @@
-// Whole runs in memory, with calls that fail; and what is printed of one node of what was parsed.
-ghost use Rattle.std.specs.Prelude.{◌<◌, ◌≤◌, length};
+// Whole runs in memory, with calls that fail.
+ghost use Rattle.std.specs.Prelude.{◌<◌, ◌≤◌, length, vec_len};
+ghost use Rattle.visitor_walk.specs.Groups.{AreFew};
 
 use crate::fault::Fault;
 use crate::run::{Ended, run};
-use css_parse::parse::parse;
-use css_text::stop::Stop;
-use css_text::text::Text;
 use io_edge::memory::{MemSink, MemSource};
-use node_store::fault::TreeFault;
-use node_store::id::NodeId;
-use node_store::work::Work;
+use plugin_api::plugin::Plugin;
 use std::alloc::{AllocError, Global};
 use std::process::Abort;
 use std::test::Fail;
-use stringify::printed::print_node;
 
 const EMPTY_BLOCK: &str =
     "<stdin>\n  1:2  error  Unexpected empty block  block-no-empty\n\n1 problem (1 error, 0 warnings)\n";
@@ -41,7 +36,7 @@ const WRONG: &str = "csswork: <stdin> is not UTF-8 at byte 1\n";
 
 const MARKED: &[u8] = b"\xef\xbb\xbfa{}\r\n/*\xf0\x9f\x98\x80*/b{}";
 
-pub(crate) const ORDINARY: &str =
+const ORDINARY: &str =
     "@charset \"utf-8\";\n@import url(\"base.css\") screen;\n\n/* Fonts */\n@font-face {\n  font-family: \"Open Sans\";\n  src: url(open-sans.woff2) format(\"woff2\"), url(data:font/woff;base64,d09GRg==) format(\"woff\");\n}\n\n:root {\n  --brand: #aabbcc;\n}\n\n.nav > li:not(.active)::before {\n  content: \"\\201C\";\n  color: var(--brand, #336699);\n  -webkit-transition: opacity .2s ease-in-out;\n  transition: opacity .2s ease-in-out;\n}\n\n@media screen and (min-width: 600px) {\n  .nav { margin: 0 auto; }\n}\n\n@keyframes fade {\n  from { opacity: 0; }\n  to { opacity: 1 !important; }\n}\n";
 
 // No call has this number.
@@ -49,14 +44,14 @@ const NEVER: u64 = 1_000_000;
 
 // The one call of each object that fails, and the most bytes that a write takes.
 #[derive(Clone, Copy)]
-struct Failing {
-    read: u64,
-    out: u64,
-    err: u64,
-    most: usize,
+pub(crate) struct Failing {
+    pub read: u64,
+    pub out: u64,
+    pub err: u64,
+    pub most: usize,
 }
 
-const NONE: Failing = Failing {
+pub(crate) const NONE: Failing = Failing {
     read: NEVER,
     out: NEVER,
     err: NEVER,
@@ -64,19 +59,22 @@ const NONE: Failing = Failing {
 };
 
 #[derive(Drop)]
-struct Outcome {
-    ended: Ended,
-    out: MemSink,
-    err: MemSink,
+pub(crate) struct Outcome {
+    pub ended: Ended,
+    pub out: MemSink,
+    pub err: MemSink,
 }
 
-fn run_with(
+pub(crate) fn run_on(
     alloc: Global,
     words: &[&str],
     input: &[u8],
     failing: Failing,
+    shelf: &mut Vec<Plugin>,
 ) -> Result<Outcome, AllocError>
-    requires { 0 < failing.most }
+    requires most { 0 < failing.most }
+    requires plugins { vec_len shelf.old < 4294967296 }
+    requires hooks { AreFew shelf.old.items }
 {
     let mut given = Vec::new(alloc);
     for word in words {
@@ -86,8 +84,21 @@ fn run_with(
     let mut source = MemSource::new(alloc, bytes, vec![in alloc; failing.read]?);
     let mut out = MemSink::new(alloc, failing.most, vec![in alloc; failing.out]?);
     let mut err = MemSink::new(alloc, failing.most, vec![in alloc; failing.err]?);
-    let ended = run(alloc, &given, &mut source, &mut out, &mut err)?;
+    let ended = run(alloc, &given, &mut source, &mut out, &mut err, shelf)?;
     Ok(Outcome { ended, out, err })
+}
+
+// A run without plugins.
+fn run_with(
+    alloc: Global,
+    words: &[&str],
+    input: &[u8],
+    failing: Failing,
+) -> Result<Outcome, AllocError>
+    requires { 0 < failing.most }
+{
+    let mut shelf = Vec::new(alloc);
+    run_on(alloc, words, input, failing, &mut shelf)
 }
 
 fn fault_of(ended: &Ended) -> (&'static str, &str) {
@@ -99,6 +110,9 @@ fn fault_of(ended: &Ended) -> (&'static str, &str) {
         Some(Fault::TooLarge { name }) => ("too large", name.as_str()),
         Some(Fault::NotUtf8 { name, .. }) => ("not UTF-8", name.as_str()),
         Some(Fault::Syntax { name, .. }) => ("syntax", name.as_str()),
+        Some(Fault::PluginFailed { text, .. }) => ("plugin", text.as_str()),
+        Some(Fault::BudgetSpent { .. }) => ("calls", ""),
+        Some(Fault::EditBudgetSpent { .. }) => ("edits", ""),
     }
 }
 
@@ -343,42 +357,6 @@ fn limits(rt: HostRuntime) -> Result<(), Fail> {
             assert_eq!(rt; result.ended.status, status, "{word} {size}");
             assert_eq!(rt; result.err.bytes(), line.as_bytes(), "{word} {size}");
         }
-    }
-    Ok(())
-}
-
-pub(crate) fn work_of(alloc: Global, src: &str) -> Option<Work>
-    requires { length src.now ≤ 10000 }
-{
-    let text = match src.as_bytes().to_vec(alloc) {
-        Ok(bytes) => Text::new(alloc, bytes),
-        Err(_) => return None,
-    };
-    match text {
-        Ok(text) => match parse(alloc, text) {
-            Ok(work) => Some(work),
-            Err(_) => None,
-        },
-        Err(_) => None,
-    }
-}
-
-fn expect_printed(rt: &impl Abort, alloc: Global, work: &Work) {
-    match print_node(alloc, work, NodeId::new(2)) {
-        Ok(printed) => assert_eq!(rt; printed.text.as_str(), "b:c"),
-        Err(_) => assert!(rt; false),
-    }
-    match print_node(alloc, work, NodeId::new(9)) {
-        Err(Stop::Fault(fault)) => assert_eq!(rt; fault, TreeFault::NoSuchNode),
-        _ => assert!(rt; false),
-    }
-}
-
-#[test]
-fn prints_one_node(rt: HostRuntime) -> Result<(), Fail> {
-    match work_of(rt.alloc(), "a{b:c}") {
-        Some(work) => expect_printed(&rt, rt.alloc(), &work),
-        None => assert!(rt; false),
     }
     Ok(())
 }

@@ -1,44 +1,166 @@
 // The command's words.
-ghost use Rattle.std.specs.Prelude.{◌≡◌, map, nat_eq};
+ghost use Rattle.std.specs.Prelude.{◌≡◌, ◌<◌, IfOk, IfSome, List, ℕ, length, map};
+ghost use Rattle.std.specs.List.{All};
+ghost use Rattle.std.specs.Option.{option_map};
 ghost use Rattle.std.specs.Str.{chars};
-ghost use Rattle.std.specs.Cmp.Lexicographic.{pointwise};
-ghost use Rattle.css_job.specs.Words.{word, named, command_of};
+ghost use Rattle.css_job.specs.Words.{word, command_of, command_with, given as given_options, options_of as asked_options, and_options, taken, or_none, picked_by, number as number_of, most_budget, Transform};
+ghost use Rattle.css_job.specs.CommandSeen.{shelf_names, command_seen, options_seen, Picks};
+ghost use Rattle.css_job.specs.GivenSeen.{all_seen};
+
+use crate::numbers::number;
+use crate::options::{Given, are_once, is_same, options_in, value_of};
+use crate::picked::picked;
+use plugin_api::plugin::Plugin;
+use std::alloc::{AllocError, Global};
+
+/// The most calls and edits that a command can allow.
+const MOST_BUDGET: u64 = 20_000_000;
+
+/// The options of `transform`.
+#[derive(Clone, Copy, PartialEq, Eq, Debug)]
+pub enum OptionName {
+    /// `--use NAMES`: the plugins to walk with.
+    Use,
+    /// `--budget N`: how many calls are allowed.
+    Budget,
+    /// `--edit-budget N`: how many edits are allowed.
+    EditBudget,
+    /// `--trace`: the walk's log is written.
+    Trace,
+}
+
+/// What the options of `transform` ask for.
+#[derive(Drop)]
+pub struct Options {
+    /// The places on the shelf of the plugins to walk with.
+    pub picked: Vec<usize>,
+    /// How many calls are allowed, where that is given.
+    pub budget: Option<u64>,
+    /// How many edits are allowed, where that is given.
+    pub edit_budget: Option<u64>,
+    /// The walk's log is written.
+    pub trace: bool,
+}
 
 /// What the program can be asked to do.
-#[derive(Clone, Copy, PartialEq, Eq, Debug)]
+#[derive(Drop)]
 pub enum Command {
-    /// Read a sheet, and print it.
-    Transform,
+    /// Read a sheet, walk the plugins over it, and print it.
+    Transform(Options),
     /// Read a sheet, and report on it.
     Lint,
 }
 
-/// The word is this name.
-fn is_word(given: &String, name: &str) -> bool
-    ensures { result ≡ pointwise nat_eq (word given.now) (chars name.now) }
+/// The places that the names of `--use` pick; none where it isn't given.
+fn picks(
+    alloc: Global,
+    shelf: &Vec<Plugin>,
+    names: Option<&str>,
+) -> Result<Option<Vec<usize>>, AllocError>
+    ensures is { IfOk result (λ r. option_map (λ v. v.items) r ≡ option_map or_none (taken (picked_by (shelf_names shelf.now.items)) (option_map (λ s. chars s.now) names.entry))) }
+    ensures places { IfOk result (λ r. IfSome r (λ v. All (λ place. place < length shelf.now.items) v.items)) }
 {
-    given.as_str() == name
+    match names {
+        Some(names) => picked(alloc, shelf, names),
+        None => Ok(Some(Vec::new(alloc))),
+    }
 }
 
-/// The command of that name.
-fn command_named(given: &String) -> Option<Command>
-    ensures { result ≡ named (word given.now) }
+/// A budget, where it is given.
+fn budget_in(text: Option<&str>) -> Option<Option<u64>>
+    ensures { result ≡ taken (number_of most_budget) (option_map (λ s. chars s.now) text.entry) }
 {
-    if is_word(given, "transform") {
-        Some(Command::Transform)
-    } else if is_word(given, "lint") {
-        Some(Command::Lint)
+    match text {
+        Some(text) => Some(Some(number(text, MOST_BUDGET)?)),
+        None => Some(None),
+    }
+}
+
+fn options_of(
+    alloc: Global,
+    given: &[Given],
+    shelf: &Vec<Plugin>,
+) -> Result<Option<Options>, AllocError>
+    ensures is { IfOk result (λ o. option_map options_seen o ≡ asked_options (shelf_names shelf.now.items) (all_seen given.now)) }
+    ensures places { IfOk result (λ o. IfSome o (λ x. All (λ place. place < length shelf.now.items) x.picked.items)) }
+{
+    if !are_once(given) {
+        return Ok(None);
+    }
+    let Some(picked) = picks(alloc, shelf, value_of(OptionName::Use, given))? else {
+        return Ok(None);
+    };
+    let budget = budget_in(value_of(OptionName::Budget, given));
+    let edit_budget = budget_in(value_of(OptionName::EditBudget, given));
+    let (Some(budget), Some(edit_budget)) = (budget, edit_budget) else {
+        return Ok(None);
+    };
+    let trace = value_of(OptionName::Trace, given).is_some();
+    Ok(Some(Options {
+        picked,
+        budget,
+        edit_budget,
+        trace,
+    }))
+}
+
+fn transform(
+    alloc: Global,
+    words: &[String],
+    shelf: &Vec<Plugin>,
+) -> Result<Option<Command>, AllocError>
+    ensures is { IfOk result (λ c. option_map command_seen c ≡ option_map Transform (and_options (shelf_names shelf.now.items) (given_options (map word words.now)))) }
+    ensures places { IfOk result (λ c. IfSome c (Picks (length shelf.now.items))) }
+{
+    let Some(given) = options_in(alloc, words)? else {
+        return Ok(None);
+    };
+    match options_of(alloc, given.as_slice(), shelf)? {
+        Some(options) => Ok(Some(Command::Transform(options))),
+        None => Ok(None),
+    }
+}
+
+fn command_named(
+    alloc: Global,
+    name: &str,
+    words: &[String],
+    shelf: &Vec<Plugin>,
+) -> Result<Option<Command>, AllocError>
+    ensures is { IfOk result (λ c. option_map command_seen c ≡ command_with (shelf_names shelf.now.items) (chars name.now) (map word words.now)) }
+    ensures places { IfOk result (λ c. IfSome c (Picks (length shelf.now.items))) }
+{
+    if is_same(name, "transform") {
+        transform(alloc, words, shelf)
+    } else if is_same(name, "lint") && words.is_empty() {
+        Ok(Some(Command::Lint))
     } else {
-        None
+        Ok(None)
     }
 }
 
-/// The command that the words are for; none where they are for no command that the program knows.
-pub fn command_of(words: &[String]) -> Option<Command>
-    ensures { result ≡ command_of (map word words.now) }
+/// The command that the words ask for; none where they ask for none that the program knows.
+///
+/// The first word names the command. `transform` takes options alone, each at most once: `--name`
+/// for a flag, `--name value` or `--name=value` for one with a value, which isn't empty and doesn't
+/// begin with `-`. A number has one to ten digits and is at most 20,000,000. Names stand between
+/// commas, each the name of a plugin on the shelf, none twice; of two plugins with one name the
+/// first is picked.
+///
+/// # Errors
+///
+/// Only for want of memory.
+#[tactic(auto, unfolding(crate::specs::Words::command_of))]
+pub fn command_of(
+    alloc: Global,
+    words: &[String],
+    shelf: &Vec<Plugin>,
+) -> Result<Option<Command>, AllocError>
+    ensures is { IfOk result (λ c. option_map command_seen c ≡ command_of (shelf_names shelf.now.items) (map word words.now)) }
+    ensures places { IfOk result (λ c. IfSome c (Picks (length shelf.now.items))) }
 {
-    match words {
-        [given] => command_named(given),
-        _ => None,
-    }
+    let Some((name, rest)) = words.split_first() else {
+        return Ok(None);
+    };
+    command_named(alloc, name.as_str(), rest, shelf)
 }

@@ -3,10 +3,15 @@
 
 use css_job::run::run;
 use io_edge::real::{StdErr, StdIn, StdOut};
+use plugin_api::fn_visitor::FnVisitor;
+use plugin_api::recorder::Recorder;
+use plugin_api::visitor::Visitor;
 use std::alloc::AllocError;
 use std::env;
 use std::io::ErrorKind;
 use std::process::ExitCode;
+use transforms::acts::{DropComment, DropEmpty, ShortHex, Unnest};
+use transforms::shelf::{Visitors, shipped};
 
 /// The status for want of memory: `EX_TEMPFAIL` of `sysexits.h`.
 const OUT_OF_MEMORY: u8 = 75;
@@ -27,13 +32,42 @@ fn words_of(rt: &HostRuntime) -> Result<Vec<String>, AllocError> {
     Ok(words)
 }
 
-/// Runs the command, and answers the exit status.
+/// Runs the command with the shipped plugins on the shelf, and answers the exit status.
 fn status_of(rt: &HostRuntime) -> Result<u8, AllocError> {
+    let alloc = rt.alloc();
     let words = words_of(rt)?;
+    let comment: Box<dyn Visitor> = Box::new(
+        alloc,
+        Recorder::new(alloc, FnVisitor::new(alloc, DropComment {})),
+    )?;
+    let empty_rule: Box<dyn Visitor> = Box::new(
+        alloc,
+        Recorder::new(alloc, FnVisitor::new(alloc, DropEmpty {})),
+    )?;
+    let empty_at_rule: Box<dyn Visitor> = Box::new(
+        alloc,
+        Recorder::new(alloc, FnVisitor::new(alloc, DropEmpty {})),
+    )?;
+    let short_hex: Box<dyn Visitor> = Box::new(
+        alloc,
+        Recorder::new(alloc, FnVisitor::new(alloc, ShortHex { alloc })),
+    )?;
+    let unnest: Box<dyn Visitor> = Box::new(
+        alloc,
+        Recorder::new(alloc, FnVisitor::new(alloc, Unnest { alloc })),
+    )?;
+    let visitors = Visitors {
+        comment,
+        empty_rule,
+        empty_at_rule,
+        short_hex,
+        unnest,
+    };
     let mut input = StdIn::new(rt.stdin());
     let mut out = StdOut::new(rt.stdout());
     let mut err = StdErr::new(rt.stderr());
-    let ended = run(rt.alloc(), &words, &mut input, &mut out, &mut err)?;
+    let mut shelf = shipped(alloc, visitors)?;
+    let ended = run(alloc, &words, &mut input, &mut out, &mut err, &mut shelf)?;
     Ok(ended.status)
 }
 

@@ -1,8 +1,7 @@
 -- More rows without links keep the rows linked.
-use Rattle.std.proofs.Common.{◌≡◌, ℕ, ◌+◌, ◌≤◌, ◌<◌, List, [], ◌∷◌, ◌++◌, length, map, ap, sym, ◌∙◌, subst, arith, append-nil, append_assoc, length-append}
+use Rattle.std.proofs.Common.{◌≡◌, ◌+◌, ◌≤◌, List, [], ◌∷◌, ◌++◌, length, map, ap, sym, ◌∙◌, subst, arith, append-nil, append_assoc, length-append}
 use Rattle.node_rows.specs.declared.growth.NewNode.{NewNode}
 use Rattle.node_rows.specs.declared.rows.Row.{Row}
-use Rattle.node_rows.specs.Nodes.{Node}
 use Rattle.node_rows.specs.Shown.{shown_rows, IsLinked}
 use Rattle.node_rows.specs.Growth.{made, row_of}
 use Rattle.node_rows.proofs.Pushed.{shown-pushed, IsLinked-pushed}

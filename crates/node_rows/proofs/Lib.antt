@@ -23,3 +23,4 @@ pub mod SameText
 pub mod Kept
 pub mod Grown
 pub mod Below
+pub mod Fingers

@@ -1,8 +1,8 @@
 -- The places of children among their siblings, and how they move.
-use Rattle.std.proofs.Common.{◌≡◌, ◌≢◌, ℕ, zero, suc, ◌+◌, ◌<◌, ◌≤◌, List, [], ◌∷◌, length, Some, None, refl, ap, sym, ◌∙◌, arith, eqb, slice_get, insert, remove, get_or, inl, inr}
+use Rattle.std.proofs.Common.{◌≡◌, ◌≢◌, ℕ, zero, suc, ◌+◌, ◌<◌, ◌≤◌, List, [], ◌∷◌, length, Option, Some, None, IfSome, refl, ap, sym, ◌∙◌, arith, eqb, slice_get, insert, remove, get_or, inl, inr}
 use Rattle.std.specs.List.{position_or_len}
 use Rattle.std.proofs.lemmas.Bool.{cases_Bool, ne_eqb}
-use Rattle.node_rows.specs.Nodes.{Node, parent_of, children_of, place_of, before_place, child_before, previous_sibling_of}
+use Rattle.node_rows.specs.Nodes.{Node, parent_of, children_of, place_of, before_place, child_after, child_before, next_sibling_of, previous_sibling_of}
 use Rattle.node_rows.specs.Sound.{IsSound}
 use Rattle.node_rows.proofs.Behind.{place_is, child_parent}
 use Rattle.node_rows.proofs.Edits.{listed_once}
@@ -36,6 +36,18 @@ module _ (ns : List Node) (s : IsSound ns) where
   -- only the first child has none before it
   pub previous-none : (n p : ℕ) → parent_of ns n ≡ Some p → previous_sibling_of ns n ≡ None → place_of ns p n ≡ 0
   previous-none n p e g = prev_none n p (place_of ns p n) (place-inside n p e) (sym (ap (child_before ns n) e) ∙ g)
+
+  -- the sibling behind a child stands one place behind it
+  pub next-some : (n p c : ℕ) → parent_of ns n ≡ Some p → next_sibling_of ns n ≡ Some c → (parent_of ns c ≡ Some p) × (place_of ns p c ≡ place_of ns p n + 1)
+  next-some n p c e g =
+      let h : slice_get (children_of ns p) (place_of ns p n + 1) ≡ Some c = sym (ap (child_after ns n) e) ∙ g in
+      let f = child_parent ns (slice_get (children_of ns p) (place_of ns p n + 1)) p c (child-inside ns p (place_of ns p n + 1) s) h in
+      (f, place_is c (children_of ns p) (place_of ns p n + 1) (listed_once ns c p s f) h)
+
+  -- the sibling behind the child n, if there is one, stands k + 1 places behind the place i, where n stands k places behind it
+  pub next-further : (n p i k : ℕ) (o : Option ℕ) → parent_of ns n ≡ Some p → place_of ns p n ≡ i + k → o ≡ next_sibling_of ns n → IfSome o (λ c. (parent_of ns c ≡ Some p) × (place_of ns p c ≡ i + (k + 1)))
+  next-further n p i k None e h g = tt
+  next-further n p i k (Some c) e h g = let t = next-some n p c e (sym g) in (t.0, omega (arith, t.1))
 
 -- a child's place after an insertion beside it
 pub place-insert : (m n : ℕ) (xs : List ℕ) (i : ℕ) → m ≢ n → i ≤ length xs → (position_or_len (eqb m) xs < i → position_or_len (eqb m) (insert xs i n) ≡ position_or_len (eqb m) xs) × (i ≤ position_or_len (eqb m) xs → position_or_len (eqb m) (insert xs i n) ≡ position_or_len (eqb m) xs + 1)

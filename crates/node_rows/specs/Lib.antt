@@ -11,3 +11,4 @@ pub mod Marks
 pub mod Beyond
 pub mod WrittenTexts
 pub mod Growth
+pub mod Fingers

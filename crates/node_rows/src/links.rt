@@ -1,22 +1,32 @@
 // The links between the rows: a child is found, put in and taken out.
 ghost use Rattle.std.specs.Prelude.{◌≡◌, ◌-◌, ◌<◌, ◌≤◌, ◌≢◌, take, drop, length, slice_get, false, Option, Some, None};
 ghost use Rattle.node_rows.specs.Nodes.{parent_of, children_of, holds, place_of, linked, unlinked};
-ghost use Rattle.node_rows.specs.Shown.{IsLinked, listed, row_at};
+ghost use Rattle.node_rows.specs.Fingers.{IsFinger};
+ghost use Rattle.node_rows.specs.Shown.{IsLinked, listed, row_at, shown_rows};
 ghost use Rattle.node_rows.specs.Joins.{placed, with_after, with_before, joined_in, freed, cut_from, IsWithin};
 ghost use Rattle.node_rows.specs.Segments.{end_of, start_of};
 
+use crate::finger::{Finger, finger_with};
 use crate::rows::{Row, Rows};
 
-// The children of p on both sides of the place `at`, found from the first one on.
-fn gap_from_first(rows: &Vec<Row>, p: u32, at: usize) -> (Option<u32>, Option<u32>)
+// The children of p on both sides of the place `at`, found onward from those on both sides of the place `from`.
+fn gap_onward(
+    rows: &Vec<Row>,
+    p: u32,
+    from: usize,
+    at: usize,
+    gap: (Option<u32>, Option<u32>),
+) -> (Option<u32>, Option<u32>)
     requires sound { IsLinked rows.now.items }
     requires given { p < length rows.now.items }
+    requires order { from ≤ at }
+    requires before { gap.0 ≡ end_of None (take from (listed rows.now.items (row_at rows.now.items p))) }
+    requires after { gap.1 ≡ start_of (drop from (listed rows.now.items (row_at rows.now.items p))) None }
     ensures before { result.0 ≡ end_of None (take at (listed rows.now.items (row_at rows.now.items p))) }
     ensures after { result.1 ≡ start_of (drop at (listed rows.now.items (row_at rows.now.items p))) None }
 {
-    let mut before = None;
-    let mut after = rows[p as usize].first;
-    for _i in 0..at {
+    let (mut before, mut after) = gap;
+    for _i in from..at {
         if let Some(child) = after {
             before = after;
             after = rows[child as usize].after;
@@ -25,16 +35,25 @@ fn gap_from_first(rows: &Vec<Row>, p: u32, at: usize) -> (Option<u32>, Option<u3
     (before, after)
 }
 
-// The same, found from the last one back, where `left` children stand behind the place.
-fn gap_from_last(rows: &Vec<Row>, p: u32, left: usize) -> (Option<u32>, Option<u32>)
+// The same, found back from a place that isn't earlier.
+fn gap_back(
+    rows: &Vec<Row>,
+    p: u32,
+    from: usize,
+    at: usize,
+    gap: (Option<u32>, Option<u32>),
+) -> (Option<u32>, Option<u32>)
     requires sound { IsLinked rows.now.items }
     requires given { p < length rows.now.items }
-    ensures before { result.0 ≡ end_of None (take (length (listed rows.now.items (row_at rows.now.items p)) - left) (listed rows.now.items (row_at rows.now.items p))) }
-    ensures after { result.1 ≡ start_of (drop (length (listed rows.now.items (row_at rows.now.items p)) - left) (listed rows.now.items (row_at rows.now.items p))) None }
+    requires order { at ≤ from }
+    requires inside { from ≤ length (listed rows.now.items (row_at rows.now.items p)) }
+    requires before { gap.0 ≡ end_of None (take from (listed rows.now.items (row_at rows.now.items p))) }
+    requires after { gap.1 ≡ start_of (drop from (listed rows.now.items (row_at rows.now.items p))) None }
+    ensures before { result.0 ≡ end_of None (take at (listed rows.now.items (row_at rows.now.items p))) }
+    ensures after { result.1 ≡ start_of (drop at (listed rows.now.items (row_at rows.now.items p))) None }
 {
-    let mut before = rows[p as usize].last;
-    let mut after = None;
-    for _i in 0..left {
+    let (mut before, mut after) = gap;
+    for _i in at..from {
         if let Some(child) = before {
             after = before;
             before = rows[child as usize].before;
@@ -44,18 +63,53 @@ fn gap_from_last(rows: &Vec<Row>, p: u32, left: usize) -> (Option<u32>, Option<u
 }
 
 // The same, found from the nearer end.
-fn gap(rows: &Vec<Row>, p: u32, at: usize) -> (Option<u32>, Option<u32>)
+fn gap_from_end(rows: &Vec<Row>, p: u32, at: usize) -> (Option<u32>, Option<u32>)
     requires sound { IsLinked rows.now.items }
     requires given { p < length rows.now.items }
     requires place { at ≤ length (listed rows.now.items (row_at rows.now.items p)) }
     ensures before { result.0 ≡ end_of None (take at (listed rows.now.items (row_at rows.now.items p))) }
     ensures after { result.1 ≡ start_of (drop at (listed rows.now.items (row_at rows.now.items p))) None }
 {
-    let left = rows[p as usize].count as usize - at;
-    if at <= left {
-        gap_from_first(rows, p, at)
+    let row = &rows[p as usize];
+    let count = row.count as usize;
+    if at <= count - at {
+        gap_onward(rows, p, 0, at, (None, row.first))
     } else {
-        gap_from_last(rows, p, left)
+        gap_back(rows, p, count, at, (row.last, None))
+    }
+}
+
+// The same, found from the child that the finger is at.
+fn gap_from_finger(rows: &Vec<Row>, p: u32, at: usize, finger: Finger) -> (Option<u32>, Option<u32>)
+    requires sound { IsLinked rows.now.items }
+    requires given { p < length rows.now.items }
+    requires finger { slice_get (listed rows.now.items (row_at rows.now.items p)) finger.place ≡ Some finger.node }
+    ensures before { result.0 ≡ end_of None (take at (listed rows.now.items (row_at rows.now.items p))) }
+    ensures after { result.1 ≡ start_of (drop at (listed rows.now.items (row_at rows.now.items p))) None }
+{
+    let gap = (rows[finger.node as usize].before, Some(finger.node));
+    if finger.place <= at {
+        gap_onward(rows, p, finger.place, at, gap)
+    } else {
+        gap_back(rows, p, finger.place, at, gap)
+    }
+}
+
+// The same, found from the nearer end, or from the finger where it is nearer.
+fn gap(rows: &Vec<Row>, p: u32, at: usize, finger: Option<Finger>) -> (Option<u32>, Option<u32>)
+    requires sound { IsLinked rows.now.items }
+    requires given { p < length rows.now.items }
+    requires place { at ≤ length (listed rows.now.items (row_at rows.now.items p)) }
+    requires finger { IsFinger (shown_rows rows.now.items) finger }
+    ensures before { result.0 ≡ end_of None (take at (listed rows.now.items (row_at rows.now.items p))) }
+    ensures after { result.1 ≡ start_of (drop at (listed rows.now.items (row_at rows.now.items p))) None }
+{
+    let left = rows[p as usize].count as usize - at;
+    match finger {
+        Some(finger) if finger.parent == p && finger.place.abs_diff(at) < at.min(left) => {
+            gap_from_finger(rows, p, at, finger)
+        }
+        _ => gap_from_end(rows, p, at),
     }
 }
 
@@ -158,23 +212,21 @@ impl Rows {
         if at >= self.items[n as usize].count as usize {
             return None;
         }
-        gap(&self.items, n, at).1
+        gap(&self.items, n, at, self.finger).1
     }
 
-    /// The place of the child n of `parent`: how many children stand before it, which it walks back over.
+    /// The place of the child n of `parent`: how many children stand before it. It walks from n on both sides at once, up
+    /// to the first child or to one whose place is known from the last change.
     pub fn place(&self, parent: u32, n: u32) -> usize
         requires { parent_of self.now n ≡ Some parent }
         ensures value { result ≡ place_of self.now parent n }
         ensures inside { result < length (children_of self.now parent) }
     {
         self.facts();
-        let mut at = 0;
-        let mut child = n;
-        while let Some(before) = self.previous_sibling(child) {
-            at += 1;
-            child = before;
+        match self.place_within(parent, n, self.child_count(parent) as usize) {
+            Some(at) => at,
+            None => unreachable!(),
         }
-        at
     }
 
     /// Puts the loose node into `parent`, as its child at the place. It takes constant time for the first and the last
@@ -188,8 +240,14 @@ impl Rows {
         requires place { at ≤ length (children_of self.old parent) }
         ensures { self.new ≡ linked self.old parent at node }
     {
-        let (before, after) = gap(&self.items, parent, at);
+        let (before, after) = gap(&self.items, parent, at, self.finger);
         join(&mut self.items, parent, node, before, after);
+        let child = Finger {
+            parent,
+            node,
+            place: at,
+        };
+        self.finger = finger_with(self.finger, child, before.is_none() || after.is_none());
     }
 
     /// Puts the loose node behind the last child of `parent`.
@@ -201,8 +259,15 @@ impl Rows {
         requires apart { holds self.old node parent ≡ false }
         ensures { self.new ≡ linked self.old parent (length (children_of self.old parent)) node }
     {
-        let last = self.items[parent as usize].last;
+        let row = &self.items[parent as usize];
+        let last = row.last;
+        let child = Finger {
+            parent,
+            node,
+            place: row.count as usize,
+        };
         join(&mut self.items, parent, node, last, None);
+        self.finger = finger_with(self.finger, child, true);
     }
 
     /// Takes the child out of `parent`, in constant time. It is loose then.
@@ -210,8 +275,10 @@ impl Rows {
         requires { parent_of self.old node ≡ Some parent }
         ensures { self.new ≡ unlinked self.old parent (place_of self.old parent node) node }
     {
+        let finger = self.finger_without(parent, node);
         let row = &self.items[node as usize];
         let (before, after) = (row.before, row.after);
         cut(&mut self.items, parent, node, before, after);
+        self.finger = finger;
     }
 }

@@ -5,6 +5,7 @@ ghost use Rattle.node_rows.specs.Sound.{IsSound};
 ghost use Rattle.node_rows.specs.NodeList.{nodes_of, is_document_order, parents_in};
 ghost use Rattle.node_rows.specs.Appended.{appended, IsAppendable};
 
+use crate::finger::Finger;
 use crate::node_list::NodeAt;
 use css_text::lexer::Span;
 use css_tree::node::NodeText;
@@ -30,6 +31,7 @@ pub struct Row {
 #[derive(Drop)]
 pub struct Rows {
     pub(crate) items: Vec<Row>,
+    pub(crate) finger: Option<Finger>,
 }
 
 impl Model for Rows {
@@ -39,10 +41,11 @@ impl Model for Rows {
     ghost Value = { List Node };
 
     ghost use Rattle.node_rows.specs.Shown.{shown_rows, IsLinked};
+    ghost use Rattle.node_rows.specs.Fingers.{IsFinger};
 
     ghost view = { λ r. shown_rows r.items.items };
 
-    ghost invariant = { λ r. IsLinked r.items.items };
+    ghost invariant = { λ r. IsLinked r.items.items × IsFinger (shown_rows r.items.items) r.finger };
 }
 
 impl Rows {
@@ -51,7 +54,10 @@ impl Rows {
         ensures { IfOk result (λ rows. rows ≡ []) }
     {
         let items = Vec::with_capacity(alloc, count)?;
-        Ok(Rows { items })
+        Ok(Rows {
+            items,
+            finger: None,
+        })
     }
 
     /// How many nodes there are, loose ones too.

@@ -88,6 +88,37 @@ fn moves(rt: HostRuntime) -> Result<(), Fail> {
     Ok(())
 }
 
+// The root 0 with the children 1 to 6.
+fn row_of_six(alloc: Global) -> Result<Rows, AllocError> {
+    let mut rows = Rows::with_capacity(alloc, 7)?;
+    for n in 0..7 {
+        if rows.len() < 7 {
+            rows.add(rule(alloc, "a")?, None)?;
+            put(&mut rows, 0, (n as usize).saturating_sub(1), n);
+        }
+    }
+    Ok(rows)
+}
+
+// Each child goes from its place to another, near the last one that was moved or far from it.
+#[test]
+fn moves_among_siblings(rt: HostRuntime) -> Result<(), Fail> {
+    let mut rows = row_of_six(rt.alloc())?;
+    expect_children(&rt, &rows, 0, &[1, 2, 3, 4, 5, 6]);
+    for (node, place, at, want) in [
+        (3, 2, 4, [1, 2, 4, 5, 3, 6]),
+        (5, 3, 3, [1, 2, 4, 5, 3, 6]),
+        (2, 1, 0, [2, 1, 4, 5, 3, 6]),
+        (6, 5, 2, [2, 1, 6, 4, 5, 3]),
+        (6, 2, 5, [2, 1, 4, 5, 3, 6]),
+    ] {
+        assert_eq!(rt; take(&mut rows, node), Some(place));
+        assert_eq!(rt; put(&mut rows, 0, at, node), true);
+        expect_children(&rt, &rows, 0, &want);
+    }
+    Ok(())
+}
+
 #[test]
 fn reads(rt: HostRuntime) -> Result<(), Fail> {
     let rows = forest(rt.alloc())?;

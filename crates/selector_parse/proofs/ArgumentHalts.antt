@@ -10,8 +10,8 @@ use Rattle.css_text.specs.Ahead.{byte_len}
 use Rattle.css_text.specs.Forms.{begins}
 use Rattle.css_text.proofs.Slices.{IsFrom, from_back}
 use Rattle.selector_parse.specs.declared.phase.Phase.TheVariants.{Fresh}
-use Rattle.selector_parse.specs.declared.parse.Failure.{Failure}
-use Rattle.selector_parse.specs.declared.parse.Failure.TheVariants.{At, Memory}
+use Rattle.selector_parse.specs.declared.placed.Failure.{Failure}
+use Rattle.selector_parse.specs.declared.placed.Failure.TheVariants.{At, Memory}
 use Rattle.selector_parse.specs.declared.reading.Within.TheVariants.{Parentheses}
 use Rattle.selector_parse.specs.declared.reading.Reading.{Reading}
 use Rattle.selector_parse.specs.declared.reading.Reading.TheVariants.{Text, Blank}

@@ -23,7 +23,8 @@ use Rattle.css_text.proofs.Slices.{byte_len-append}
 use Rattle.css_text.proofs.Transport.{length-bytes}
 use Rattle.selector_parse.proofs.Rows.{some_bytes}
 use Rattle.selector_parse.specs.Row.{IsHalt, IsEnded, list_stops}
-use Rattle.selector_parse.proofs.Moves.{some_same, moved, follow-append, gap_leads, comment_moves, simple_moves, blanks_some, none_some, sign_some, comment_read, if_so_parts}
+use Rattle.selector_parse.proofs.Moves.{some_same, moved, follow-append, comment_moves, simple_moves, blanks_some, none_some, sign_some, comment_read, if_so_parts}
+use Rattle.selector_parse.proofs.GapMoves.{gap_leads}
 use Rattle.selector_parse.proofs.Arguments.{done_stuck, opens_args, list_opens, text_opens, text_moves, blank_moves, ends_comma, ends_close}
 use Rattle.selector_parse.proofs.Heads.{selector_read, starts_selector, head_opens, quiet_head}
 use Rattle.selector_parse.proofs.Whole.{Ends, moves-append, SimpleIs, simple_is, gap_is, gap_read_some, whole_go, Inner, inside_inner, opens_paren, open_first, first_unstopped, first_stuck, no_one, commented_run, run_back, run_pair, trailing_last, fresh_unblank, blank_41, args_read, args_close, fresh_open}

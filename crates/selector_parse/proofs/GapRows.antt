@@ -18,7 +18,7 @@ use Rattle.selector_parse.specs.Machine.{text_stops}
 use Rattle.selector_parse.specs.Row.{IsRow, IsInsideRun, gap_choice, takes_gap, stops}
 use Rattle.selector_parse.proofs.Scanned.{Scanned}
 use Rattle.selector_parse.proofs.Gaps.{chosen, run_read, begins_slash, none_choice, open_choice, trailing_choice}
-use Rattle.selector_parse.proofs.Moves.{gap_leads}
+use Rattle.selector_parse.proofs.GapMoves.{gap_leads}
 use Rattle.selector_parse.proofs.Rows.{gap_row, stops_same, stops_text}
 
 pub some_inner : (bs : List ℕ) (at end : ℕ) (q0 last : Reading) (h : Scanned bs at q0 end last) → at < end → is_some_text h.inner ≡ true

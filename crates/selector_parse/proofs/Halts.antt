@@ -25,8 +25,8 @@ use Rattle.std.proofs.lemmas.List.{length-drop, get_or_past}
 use Rattle.std.proofs.lemmas.Str.{len_utf8_bounds, length-encode}
 use Rattle.css_text.proofs.Bytes.{weigh, weigh-suc}
 use Rattle.css_text.proofs.Slices.{from_begins}
-use Rattle.selector_parse.specs.declared.parse.Failure.{Failure}
-use Rattle.selector_parse.specs.declared.parse.Failure.TheVariants.{At, Memory}
+use Rattle.selector_parse.specs.declared.placed.Failure.{Failure}
+use Rattle.selector_parse.specs.declared.placed.Failure.TheVariants.{At, Memory}
 use Rattle.selector_parse.specs.Row.{Halts, NameHalts}
 use Rattle.selector_parse.specs.Reading.{or_on}
 use Rattle.selector_parse.proofs.Bytes.{scan_len-bytes}

@@ -8,6 +8,7 @@ pub mod Rows
 pub mod Trees
 pub mod Gaps
 pub mod Moves
+pub mod GapMoves
 pub mod Arguments
 pub mod Comments
 pub mod GapRows

@@ -11,8 +11,8 @@ use Rattle.selector_parse.specs.declared.reading.Gap.{Gap}
 use Rattle.selector_parse.specs.declared.reading.Gap.TheVariants.{Comments, Spaced, Symbol}
 use Rattle.selector_parse.specs.declared.reading.Reading.{Reading}
 use Rattle.selector_parse.specs.declared.reading.Reading.TheVariants.{Blank, Done}
-use Rattle.selector_parse.specs.declared.parse.Failure.{Failure}
-use Rattle.selector_parse.specs.declared.parse.Failure.TheVariants.{At, Memory}
+use Rattle.selector_parse.specs.declared.placed.Failure.{Failure}
+use Rattle.selector_parse.specs.declared.placed.Failure.TheVariants.{At, Memory}
 use Rattle.selector_parse.specs.Reading.{step, is_final, read, scan_len, scan_last}
 use Rattle.selector_parse.specs.Machine.{Place, at_start, in_simple, Stand, follow, Blocked, Stuck, Matches, Calm, Moves}
 use Rattle.selector_parse.specs.Tree.{Tree, none, written, Arguments, absent, text, list, enclosed, part_before, complex_before, in_turn, after_commas, with_commas}

@@ -8,9 +8,12 @@ ghost use Rattle.selector_parse.specs.Fault.{Stops};
 ghost use Rattle.selector_parse.specs.Worth.{total, parts_in_args, parts_in_part, parts_in_complex, parts_in_list};
 ghost use Rattle.selector_parse.specs.Row.{IsRow, IsEnded, IsArguments, IsClosedText, IsListText, IsInsideRun, OnlyMemory, Halts, NameHalts, ListHalts, TextHalts, gap_choice, takes_gap, reads_blanks as reads_blanks_of, is_blank_list as is_blank_list_of, complex_parts, list_parts, closes as closes_of, list_stops as list_stops_of, stops as stops_of};
 
+use crate::bare::{comment_from, gap_part, make_part};
+use crate::ends::{has_arguments, is_blank_list, is_closed, list_stops, stops};
 use crate::names::{kind_of, takes_list};
 use crate::part::{Args, Complex, Part, PartKind, SelectorFault, Selectors};
 use crate::phase::Phase;
+use crate::placed::{Arguments, Failure, Listed, Placed, Row};
 use crate::reading::{Gap, Reading, Within};
 use crate::scan::scan;
 use css_text::scan::byte_at;
@@ -21,228 +24,12 @@ use std::alloc::{AllocError, Global};
 /// At most so many parentheses are open at once.
 const MOST_DEPTH: usize = 100;
 
-/// Why parsing stops: at a byte with which no list of selectors goes on, or for want of memory.
-#[derive(Drop)]
-enum Failure {
-    At(usize),
-    Memory(AllocError),
-}
-
-impl From<AllocError> for Failure {
-    ghost use Rattle.std.specs.Prelude.{◌≡◌};
-    ghost use Rattle.selector_parse.specs.declared.parse.Failure.TheVariants.{Memory};
-
-    ghost from_gives = { λ error e. e ≡ Memory error };
-
-    fn from(e: AllocError) -> Failure {
-        Failure::Memory(e)
-    }
-}
-
-/// Arguments, and the byte where they end.
-#[derive(Drop)]
-struct Arguments {
-    args: Args,
-    end: usize,
-}
-
-/// A part, the byte where it ends, and what may follow it.
-#[derive(Drop)]
-struct Placed {
-    part: Part,
-    end: usize,
-    phase: Phase,
-}
-
-/// The parts of a complex selector, and the byte where it ends.
-#[derive(Drop)]
-struct Row {
-    parts: Vec<Part>,
-    end: usize,
-}
-
-/// A list, and the byte where it ends.
-#[derive(Drop)]
-struct Listed {
-    list: Vec<Complex>,
-    end: usize,
-}
-
-/// At the index stands a `)` that closes one of so many parentheses.
-fn closes(s: &[u8], at: usize, depth: usize) -> bool
-    ensures { result ≡ closes_of s.now at depth }
-{
-    depth > 0 && byte_at(s, at) == b')'
-}
-
-/// A list ends at the index.
-fn list_stops(s: &[u8], at: usize, depth: usize) -> bool
-    ensures { result ≡ list_stops_of s.now at depth }
-{
-    at >= s.len() || closes(s, at, depth)
-}
-
-/// A complex selector ends at the index.
-fn stops(s: &[u8], at: usize, depth: usize) -> bool
-    ensures { result ≡ stops_of s.now at depth }
-{
-    byte_at(s, at) == b',' || list_stops(s, at, depth)
-}
-
 /// One more behind the others.
 fn push<T: Drop>(list: &mut Vec<T>, item: T) -> Result<(), AllocError>
     ensures { OnOk result (list.new.items ≡ list.old.items ++ item ∷ []) }
 {
     list.push(item)?;
     Ok(())
-}
-
-/// A part.
-fn make_part(
-    alloc: Global,
-    src: &str,
-    kind: PartKind,
-    at: usize,
-    end: usize,
-    args: Args,
-) -> Result<Part, AllocError>
-    requires small { length src.now < 2 ^ 32 }
-    requires order { at ≤ end }
-    requires low { IsCharBoundary src.now at }
-    requires high { IsCharBoundary src.now end }
-    ensures part { IfOk result (λ p. part_before p none
-        ≡ made kind at (chars (take (end - at) (drop at src.now))) (args_of args) none) }
-    ensures few { IfOk result (λ p. parts_in_part p ≡ 1 + parts_in_args args) }
-{
-    let text = Txt::new(alloc, &src[at..end])?;
-    Ok(Part {
-        kind,
-        at: at as u32,
-        text,
-        args,
-    })
-}
-
-/// The part that blanks and signs make, by what they hold and whether the complex selector ends behind them; and what may
-/// follow. `None` for comments inside a compound.
-fn gap_kind(phase: Phase, gap: Gap, stops: bool) -> Option<(PartKind, Phase)>
-    ensures { result ≡ gap_choice phase gap stops }
-{
-    match (phase, gap) {
-        (_, Gap::Symbol) => Some((PartKind::Combinator, Phase::Open)),
-        (Phase::Fresh, _) => Some((PartKind::Blank, Phase::Open)),
-        _ if stops => Some((PartKind::Blank, Phase::Trailing)),
-        (_, Gap::Spaced) => Some((PartKind::Combinator, Phase::Open)),
-        _ => None,
-    }
-}
-
-/// A part without arguments.
-fn bare_part(
-    alloc: Global,
-    src: &str,
-    kind: PartKind,
-    at: usize,
-    end: usize,
-    phase: Phase,
-) -> Result<Placed, Failure>
-    requires small { length src.now < 2 ^ 32 }
-    requires order { at ≤ end }
-    requires low { IsCharBoundary src.now at }
-    requires high { IsCharBoundary src.now end }
-    ensures part { IfOk result (λ p. (part_before p.part none
-        ≡ made kind at (chars (take (end - at) (drop at src.now))) absent none) × (p.end ≡ end) × (p.phase ≡ phase)) }
-    ensures memory { IfErr result OnlyMemory }
-    ensures few { IfOk result (λ p. parts_in_part p.part ≡ 1) }
-{
-    let part = make_part(alloc, src, kind, at, end, Args::Absent)?;
-    Ok(Placed { part, end, phase })
-}
-
-/// The comment at the byte `at`, inside a compound.
-fn comment_from(
-    alloc: Global,
-    src: &str,
-    at: usize,
-    depth: usize,
-    phase: Phase,
-) -> Result<Placed, Failure>
-    requires utf8 { IsUtf8 src.now }
-    requires small { length src.now < 2 ^ 32 }
-    requires boundary { IsCharBoundary src.now at }
-    requires within { at < length src.now }
-    requires inside { comment_next phase ≡ Some Phase.Commented }
-    requires slash { slice_index src.now at ≡ 47 }
-    requires comments { phase ≡ Phase.Inside → IsInsideRun src.now at depth }
-    ensures row { IfOk result (λ p. IsRow src.now at depth phase (part_before p.part none) p.phase p.end) }
-    ensures longer { IfOk result (λ p. at < p.end) }
-    ensures halt { IfErr result (λ e. Halts src.now at depth phase e) }
-    ensures few { IfOk result (λ p. at + parts_in_part p.part ≤ p.end) }
-{
-    let (end, reading) = scan(src.as_bytes(), at, Reading::Blank(Gap::One));
-    match reading {
-        Reading::Done => bare_part(alloc, src, PartKind::Comment, at, end, Phase::Commented),
-        _ => Err(Failure::At(end)),
-    }
-}
-
-/// The blanks and signs at the byte `at`, which end at `end` and hold `gap`.
-fn gap_part(
-    alloc: Global,
-    src: &str,
-    at: usize,
-    depth: usize,
-    phase: Phase,
-    end: usize,
-    gap: Gap,
-) -> Result<Placed, Failure>
-    requires utf8 { IsUtf8 src.now }
-    requires small { length src.now < 2 ^ 32 }
-    requires boundary { IsCharBoundary src.now at }
-    requires order { at < end }
-    requires within { end ≤ length src.now }
-    requires end { end ≡ at + scan_len (Reading.Blank Gap.Comments) (drop at src.now) }
-    requires gap { Reading.Blank gap ≡ scan_last (Reading.Blank Gap.Comments) (drop at src.now) }
-    requires phase { takes_gap phase ≡ true }
-    ensures row { IfOk result (λ p. IsRow src.now at depth phase (part_before p.part none) p.phase p.end) }
-    ensures longer { IfOk result (λ p. at < p.end) }
-    ensures halt { IfErr result (λ e. Halts src.now at depth phase e) }
-    ensures few { IfOk result (λ p. at + parts_in_part p.part ≤ p.end) }
-{
-    match gap_kind(phase, gap, stops(src.as_bytes(), end, depth)) {
-        Some((kind, next)) => bare_part(alloc, src, kind, at, end, next),
-        None => comment_from(alloc, src, at, depth, phase),
-    }
-}
-
-/// White space and comments have been read.
-fn reads_blanks(reading: Reading) -> bool
-    ensures { result ≡ reads_blanks_of reading }
-{
-    matches!(reading, Reading::Blank(Gap::Comments | Gap::Spaced))
-}
-
-/// From the byte `from` on stand blanks alone, up to a `)`.
-fn is_blank_list(s: &[u8], from: usize) -> bool
-    requires { from ≤ length s.now }
-    ensures { result ≡ is_blank_list_of s.now from }
-{
-    let (end, reading) = scan(s, from, Reading::Blank(Gap::Comments));
-    reads_blanks(reading) && byte_at(s, end) == b')'
-}
-
-/// A part that has been read ends at the index, and a `)` follows.
-fn is_closed(s: &[u8], end: usize, reading: Reading) -> bool
-    ensures { result ≡ (is_final_of reading && slice_index s.now end == 41) }
-{
-    reading.is_final() && byte_at(s, end) == b')'
-}
-
-/// The simple selector from the byte `at` to the byte `end` has arguments.
-fn has_arguments(s: &[u8], at: usize, end: usize) -> bool
-    ensures { result ≡ (slice_index s.now at == 58 && slice_index s.now end == 40) }
-{
-    byte_at(s, at) == b':' && byte_at(s, end) == b'('
 }
 
 /// Arguments that are no list, from the byte `from` behind their `(`.

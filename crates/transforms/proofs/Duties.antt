@@ -1,10 +1,10 @@
 -- A duty is met by its edits, or by a front of them before want of memory.
-use Rattle.std.proofs.Common.{◌≡◌, ℕ, List, [], ◌∷◌, ◌++◌, Bool, true, false, Option, Some, None, Result, Ok, Err, refl, ap, sym, ◌∙◌, subst}
+use Rattle.std.proofs.Common.{◌≡◌, ℕ, List, [], ◌∷◌, true, Option, Some, Result, Ok, Err, ap, sym, ◌∙◌, subst}
 use Rattle.std.specs.Prelude.{filter, reverse, if◌then◌else◌, MatchResult}
 use Rattle.std.specs.List.{flat_map}
 use Rattle.std.specs.Result.{IsErrAnd}
 use Rattle.std.specs.declared.alloc.AllocError.{AllocError}
-use Rattle.std.proofs.lemmas.Bool.{true≢false, false≢true}
+use Rattle.std.proofs.lemmas.Bool.{false≢true}
 use Rattle.css_text.specs.ValueParts.{written}
 use Rattle.css_text.proofs.ValueParts.{one_value}
 use Rattle.css_tree.specs.declared.node.Field.TheVariants as F
@@ -18,7 +18,7 @@ use Rattle.node_store.specs.declared.item.Edit.{Edit}
 use Rattle.node_store.specs.declared.item.Edit.TheVariants.{Set}
 use Rattle.node_store.specs.Forest.{Forest}
 use Rattle.plugin_api.specs.declared.visitor.Duty.{Duty}
-use Rattle.plugin_api.specs.declared.visitor.VisitFault.TheVariants.{Plugin, Memory}
+use Rattle.plugin_api.specs.declared.visitor.VisitFault.TheVariants.{Memory}
 use Rattle.plugin_api.specs.Visit.{Answer}
 use Rattle.plugin_api.specs.Calls.{Met}
 use Rattle.plugin_api.specs.Effect.{IsEffect, IsShort, IsShortened, shortened, changing, below_parent, unnested, moved_out, is_movable}

@@ -1,6 +1,6 @@
 -- Children that go out of a rule one after another, and what that leaves of the others.
-use Rattle.std.proofs.Common.{◌≡◌, ◌≢◌, ℕ, zero, suc, ◌+◌, ◌<◌, ◌≤◌, List, [], ◌∷◌, ◌++◌, Bool, true, false, not, length, Option, Some, None, Result, Ok, Err, refl, ap, sym, ◌∙◌, subst, arith, append-nil, append_assoc, nat_eq, eqb, eq-eqb, cond, insert, remove, inl, inr}
-use Rattle.std.specs.Prelude.{IsSome, filter, reverse, is_ok, if◌then◌else◌}
+use Rattle.std.proofs.Common.{◌≡◌, ◌≢◌, ℕ, suc, ◌+◌, ◌<◌, ◌≤◌, List, [], ◌∷◌, ◌++◌, Bool, true, false, not, length, Option, Some, None, Result, Ok, Err, refl, ap, sym, ◌∙◌, subst, arith, append-nil, append_assoc, nat_eq, eqb, eq-eqb, cond, insert, remove, inl, inr}
+use Rattle.std.specs.Prelude.{filter, reverse, is_ok, if◌then◌else◌}
 use Rattle.std.specs.List.{count_by, flat_map, position_or_len}
 use Rattle.std.specs.declared.alloc.AllocError.{AllocError}
 use Rattle.std.proofs.lemmas.Bool.{true≢false, false≢true, cases_Bool}

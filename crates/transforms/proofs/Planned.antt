@@ -1,6 +1,6 @@
 -- Edit calls that aren't refused.
-use Rattle.std.proofs.Common.{◌≡◌, ◌≢◌, ℕ, suc, ◌+◌, ◌<◌, List, [], ◌∷◌, ◌++◌, Bool, true, false, ◌||◌, length, Option, Some, None, Result, Ok, Err, refl, ap, sym, ◌∙◌, subst, arith, append-nil, nat_eq, eq-eqb, remove}
-use Rattle.std.specs.Prelude.{not, nat_lt, is_some, IsSome, if◌then◌else◌, filter, MatchResult}
+use Rattle.std.proofs.Common.{◌≡◌, ◌≢◌, ℕ, suc, ◌+◌, ◌<◌, List, [], ◌∷◌, ◌++◌, Bool, true, false, ◌||◌, length, Option, Some, None, Result, Ok, Err, refl, ap, sym, ◌∙◌, subst, arith, nat_eq, eq-eqb, remove}
+use Rattle.std.specs.Prelude.{not, IsSome, if◌then◌else◌, MatchResult}
 use Rattle.std.specs.List.{list_any, position_or_len}
 use Rattle.std.specs.declared.alloc.AllocError.{AllocError}
 use Rattle.std.proofs.lemmas.Bool.{lt-ltb, ne_eqb, true≢false, false≢true}
@@ -17,10 +17,10 @@ use Rattle.node_store.specs.declared.fault.TreeFault.{TreeFault}
 use Rattle.node_store.specs.declared.fault.TreeFault.TheVariants.{NoSuchNode, WrongKind, IsRoot, SameNode, Loose, Cycle}
 use Rattle.node_store.specs.declared.item.Edit.{Edit}
 use Rattle.node_store.specs.declared.item.Edit.TheVariants.{Set, Insert, Remove}
-use Rattle.node_store.specs.Forest.{Forest, IsForest, unreserved}
+use Rattle.node_store.specs.Forest.{Forest, IsForest}
 use Rattle.node_store.specs.Edits.{changes, is_loose, removed_from, apply_all}
 use Rattle.node_store.proofs.Shapes.{marked-same}
-use Rattle.edit_calls.specs.Plans.{plan, is_unknown, is_top, where_changing, setting, refused_field, removing, refused_out, removal, without, moving, beside, refused_beside, inserting_after}
+use Rattle.edit_calls.specs.Plans.{plan, is_unknown, is_top, where_changing, setting, removing, without, beside, inserting_after}
 use Rattle.edit_calls.specs.Answers.{Makes, Answers}
 use Rattle.plugin_api.specs.Edited.{Edited}
 use Rattle.plugin_api.specs.Effect.{changing}

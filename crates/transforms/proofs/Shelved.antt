@@ -1,5 +1,5 @@
 -- A shelf to which plugins are put one after another, as a contract sees it.
-use Rattle.std.proofs.Common.{◌≡◌, ℕ, zero, suc, ◌<◌, List, [], ◌∷◌, ◌++◌, length, Some, None, Option, refl, sym, ap, subst, ◌∙◌, arith}
+use Rattle.std.proofs.Common.{◌≡◌, ℕ, zero, suc, ◌<◌, List, [], ◌∷◌, ◌++◌, length, Option, sym, ap, subst, ◌∙◌, arith}
 use Rattle.std.specs.List.{All}
 use lib.ListN.{get_or}
 use Rattle.std.proofs.Math.ListN.{get_or-map}

@@ -44,7 +44,7 @@ other_word false p c cs o t h b = refl
 other_word true false c cs o t h b = ap (shortened_or (c ∷ cs)) h
 other_word true true c cs o t h b = absurd (true≢false b)
 
-unmarked : (b l : Bool) (t s : List ℕ) → b ≡ false → (if b && l then t else s) ≡ s
+pub unmarked : (b l : Bool) (t s : List ℕ) → b ≡ false → (if b && l then t else s) ≡ s
 unmarked true l t s h = absurd (true≢false h)
 unmarked false l t s h = refl
 

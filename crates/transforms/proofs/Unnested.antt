@@ -1,17 +1,14 @@
 -- The children of a rule that go out of it, one after another.
-use Rattle.std.proofs.Common.{◌≡◌, ◌≢◌, ℕ, zero, suc, ◌+◌, ◌<◌, ◌≤◌, List, [], ◌∷◌, ◌++◌, Bool, true, false, length, drop, Option, Some, None, Result, Ok, Err, refl, ap, sym, ◌∙◌, subst, arith, append-nil, append_assoc, nat_eq, eqb, slice_get, insert, inl, inr}
+use Rattle.std.proofs.Common.{◌≡◌, ℕ, List, [], Bool, length, drop, Option, Some, None, Result, Ok, Err, refl, ap, sym, ◌∙◌, slice_get, inl, inr}
 use Rattle.std.proofs.lemmas.Bool.{cases_lt, lt-ltb}
 use Rattle.std.proofs.lemmas.List.{get_or_past}
 use Rattle.node_store.specs.declared.fault.TreeFault.{TreeFault}
 use Rattle.node_store.specs.declared.fault.TreeFault.TheVariants.{NoSuchNode}
 use Rattle.node_store.specs.Forest.{Forest, read}
-use Rattle.std.specs.Prelude.{if◌then◌else◌, IsSome, filter, reverse}
-use Rattle.std.specs.List.{count_by, flat_map, position_or_len}
-use Rattle.std.specs.declared.alloc.AllocError.{AllocError}
-use Rattle.css_tree.specs.declared.node.Field.TheVariants as F
+use Rattle.std.specs.Prelude.{if◌then◌else◌}
 use Rattle.css_tree.specs.declared.node.NodeText.{NodeText}
 use Rattle.css_tree.specs.declared.node.NodeText.TheVariants.{Root, AtRule, Rule, Declaration, Comment}
-use Rattle.node_rows.specs.Nodes.{Node, no_node, text_of, parent_of, children_of, place_of, IsGiven}
+use Rattle.node_rows.specs.Nodes.{Node, no_node, text_of, children_of, IsGiven}
 use Rattle.node_rows.specs.Sound.{IsSound}
 use Rattle.node_rows.proofs.Behind.{child_parent}
 use Rattle.node_rows.proofs.Edits.{parent-inside}

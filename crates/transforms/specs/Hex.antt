@@ -1,5 +1,5 @@
 -- Hexadecimal digits in pairs, and values with a changed text of each word.
-use Rattle.std.specs.Prelude.{◌≡◌, ℕ, suc, Bool, true, false, ◌==◌, ◌&&◌, List, [], ◌∷◌}
+use Rattle.std.specs.Prelude.{ℕ, Bool, true, false, ◌==◌, ◌&&◌, List, [], ◌∷◌}
 use Rattle.std.specs.Char.{to_ascii_lowercase}
 use Rattle.css_text.specs.declared.lexer.PieceKind.TheVariants.{Word}
 use Rattle.css_text.specs.ValueParts.{ValueForm, plain, function}

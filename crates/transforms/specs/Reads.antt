@@ -1,9 +1,8 @@
 -- What the transforms read of a node.
-use Rattle.std.specs.Prelude.{◌≡◌, ℕ, Bool, true, false, ◌==◌, ◌&&◌, List, [], ◌∷◌, Option, Some, None, if◌then◌else◌}
+use Rattle.std.specs.Prelude.{ℕ, Bool, false, ◌==◌, List, [], ◌∷◌, Option, Some, None, if◌then◌else◌}
 use Rattle.css_tree.specs.declared.node.Source.{Source}
 use Rattle.css_tree.specs.declared.node.NodeText.{NodeText}
 use Rattle.css_tree.specs.declared.node.NodeText.TheVariants.{Rule, Declaration}
-use Rattle.node_rows.specs.Nodes.{Node}
 use Rattle.node_store.specs.declared.item.Event.{Event}
 use Rattle.node_store.specs.declared.item.Event.TheVariants as E
 use Rattle.node_store.specs.declared.item.Edit.{Edit}

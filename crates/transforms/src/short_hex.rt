@@ -1,16 +1,16 @@
 // Hexadecimal colours with one digit of each equal pair.
-ghost use Rattle.std.specs.Prelude.{◌≡◌, ◌++◌, [], ◌∷◌, true, Some, None, IsSome, IfOk, OnOk, MatchOption};
+ghost use Rattle.std.specs.Prelude.{◌≡◌, ◌++◌, ◌&&◌, [], ◌∷◌, true, not, Some, None, IsSome, IfOk, OnOk, MatchOption};
 ghost use Rattle.std.specs.Str.{chars};
 ghost use Rattle.std.specs.String.{string_bytes};
 ghost use Rattle.css_text.specs.ValueParts.{written, none};
 ghost use Rattle.css_tree.specs.declared.node.Field.TheVariants as F;
-ghost use Rattle.css_tree.specs.Changes.{takes_field};
+ghost use Rattle.css_tree.specs.Changes.{takes_field, same_text};
 ghost use Rattle.value_parse.specs.Tree.{form_of, is_function, before, parts_of};
 ghost use Rattle.node_rows.specs.Nodes.{text_of, parent_of};
 ghost use Rattle.node_store.specs.declared.item.Edit.TheVariants as E;
 ghost use Rattle.plugin_api.specs.declared.visitor.Duty.TheVariants as D;
 ghost use Rattle.plugin_api.specs.Calls.{Met};
-ghost use Rattle.plugin_api.specs.Effect.{shortened, IsShort, IsEffect, changing};
+ghost use Rattle.plugin_api.specs.Effect.{has, shortened, IsShort, IsEffect, changing};
 ghost use Rattle.transforms.specs.Hex.{short_own, is_word};
 ghost use Rattle.transforms.specs.Reads.{value_at};
 
@@ -83,6 +83,25 @@ fn short_text(alloc: Global, source: &str) -> Result<Txt, AllocError>
     Ok(Txt::from_string(text))
 }
 
+fn has_hash(text: &str) -> bool
+    ensures { result ≡ has 35 (chars text.now) }
+{
+    text.as_bytes().contains(&b'#')
+}
+
+fn is_without_comments(value: &Source) -> bool
+    ensures { result ≡ same_text value.now.source value.now.clean }
+{
+    value.clean.as_str() == value.source.as_str()
+}
+
+// A value without a `#` has no colour, and without comments it is kept as it was written: it stays, and isn't parsed.
+fn stays(value: &Source) -> bool
+    ensures { result ≡ (not (has 35 value.now.source) && same_text value.now.source value.now.clean) }
+{
+    !has_hash(value.source.as_str()) && is_without_comments(value)
+}
+
 // The value of a declaration that is entered.
 fn value_at(event: Event, text: &NodeText) -> Option<&Source>
     ensures { MatchOption result (value_at event text.now ≡ None) (λ v. value_at event text.now ≡ Some v.now) }
@@ -120,6 +139,7 @@ fn short_value(
 {
     match value_below(work, event, node) {
         None => Ok(None),
+        Some(value) if stays(value) => Ok(None),
         Some(value) => {
             let short = short_text(alloc, value.source.as_str())?;
             Ok(Some(short))

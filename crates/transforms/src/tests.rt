@@ -111,6 +111,8 @@ fn colours(rt: HostRuntime) -> Result<(), Fail> {
         ("'#aabbcc'", "'#aabbcc'"),
         ("f(#aabbcc, g(1px #112233", "f(#abc, g(1px #123"),
         ("red/**/#aabbcc", "red/**/#abc"),
+        ("red", "red"),
+        ("1px/**/solid", "1px/**/solid"),
     ] {
         assert!(rt; shortens(rt.alloc(), value, want)?);
     }

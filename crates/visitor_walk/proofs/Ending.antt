@@ -55,7 +55,7 @@ first_stands hs most f shelf = record {
     hears = record { names = refl; hooks = λ i j. first_heard i j (length f.log) (hook_at shelf i j) };
     duties = tt;
   };
-  shows = record { nodes = refl; free = refl; frames = tt };
+  shows = record { nodes = refl; free = refl; frames = tt; sure = tt };
   free = λ serial c e. tt;
   before = λ z serial c e a. (c, e);
   calls = refl;

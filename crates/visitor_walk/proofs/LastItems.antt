@@ -1,14 +1,13 @@
 -- What the last items of a run tell of its state and its end.
 use Rattle.std.proofs.Common.{◌≡◌, ℕ, ◌<◌, List, [], ◌∷◌, ◌++◌, Bool, true, false, Option, Some, None, refl, ap, sym, ◌∙◌, map, append_assoc, cond, subst}
-use Rattle.std.specs.Prelude.{nat_lt, if◌then◌else◌}
 use Rattle.std.proofs.lemmas.Bool.{lt-ltb}
 use Rattle.node_store.specs.declared.item.Edit.{Edit}
 use Rattle.node_store.specs.declared.item.Item.{Item}
 use Rattle.node_store.specs.declared.item.Item.TheVariants as I
 use Rattle.node_store.specs.declared.item.Moment.{Moment}
 use Rattle.visitor_machine.specs.Hooks.{PickedHook}
-use Rattle.visitor_machine.specs.Machine.{State, Stage, Ended, Stopped, item_of, turn_in, turn, next}
-use Rattle.visitor_machine.specs.Follow.{step, back, follow}
+use Rattle.visitor_machine.specs.Machine.{State, Stage, Ended, Stopped, item_of, turn_in, turn}
+use Rattle.visitor_machine.specs.Follow.{back, follow}
 use Rattle.visitor_machine.proofs.Runs.{when_parts, follow_parts, some_same}
 use Rattle.visitor_walk.specs.declared.walk_end.WalkEnd.{WalkEnd}
 use Rattle.visitor_walk.specs.declared.walk_end.WalkEnd.TheVariants.{Done, Failed, BudgetSpent, EditBudgetSpent}
@@ -45,10 +44,10 @@ no_call_in_edits m [] fault = refl
 no_call_in_edits m (e ∷ es) fault = no_call_in_edits m es fault
 
 module _ {items : List Item} {m : Moment} {fault : Option (List ℕ)} (e : EndsCalled items m fault) where
-  open_items : List Item
+  pub open_items : List Item
   open_items = e.front ++ I.Call e.plugin e.hook m ∷ map (λ x. I.Edit x) e.edits
 
-  at_back : items ≡ open_items ++ I.Back fault ∷ []
+  pub at_back : items ≡ open_items ++ I.Back fault ∷ []
   unfolding open_items
   at_back = e.are ∙ sym (append_assoc e.front (I.Call e.plugin e.hook m ∷ map (λ x. I.Edit x) e.edits) (I.Back fault ∷ []))
 
@@ -59,7 +58,7 @@ module _ {items : List Item} {m : Moment} {fault : Option (List ℕ)} (e : EndsC
   last_back_is = ap (last_back None) at_back ∙ back_behind None open_items (I.Back fault ∷ [])
 
 -- the state after a run that ends with the end of a call
-back_state : (hs : List PickedHook) (most : ℕ) (s t : State) (is : List Item) (fault : Option (List ℕ)) → follow hs most s (is ++ I.Back fault ∷ []) ≡ Some t → (u : State) × (back most u fault ≡ t)
+pub back_state : (hs : List PickedHook) (most : ℕ) (s t : State) (is : List Item) (fault : Option (List ℕ)) → follow hs most s (is ++ I.Back fault ∷ []) ≡ Some t → (u : State) × (back most u fault ≡ t)
 back_state hs most s t [] fault e = let p = follow_parts hs most s (I.Back fault) [] t e in (s, (when_parts s.calling p.first).1 ∙ some_same p.rest)
 back_state hs most s t (i ∷ is) fault e = let p = follow_parts hs most s i (is ++ I.Back fault ∷ []) t e in back_state hs most p.mid t is fault p.rest
 
@@ -89,12 +88,12 @@ no_next : (hs : List PickedHook) (s : State) (stage : Stage) (m : Moment) → Is
 no_next hs s stage m l e n = no_next_by s.calling (item_of (turn hs s)) _ (ap (λ g. item_of (turn_in hs s.nodes s.frames g)) e ∙ l hs s.nodes s.frames) n.is
 
 module _ (hs : List PickedHook) (most : ℕ) (start end : State) (items : List Item) (run : follow hs most start items ≡ Some end) where
-  after_fault : (m : Moment) (text : List ℕ) → EndsCalled items m (Some text) → end.stage ≡ Stopped
+  pub after_fault : (m : Moment) (text : List ℕ) → EndsCalled items m (Some text) → end.stage ≡ Stopped
   after_fault m text e =
       let u = back_state hs most start end (open_items e) (Some text) (ap (follow hs most start) (sym (at_back e)) ∙ run) in
       fault_stops most u.0 end text u.1
 
-  after_edits : (m : Moment) → EndsCalled items m None → most < end.edits → end.stage ≡ Stopped
+  pub after_edits : (m : Moment) → EndsCalled items m None → most < end.edits → end.stage ≡ Stopped
   after_edits m e l =
       let u = back_state hs most start end (open_items e) None (ap (follow hs most start) (sym (at_back e)) ∙ run) in
       edits_stop most u.0 end u.1 l

@@ -2,7 +2,9 @@ pub mod AsciiCase
 pub mod Fitting
 pub mod Grouping
 pub mod Seating
+pub mod Sure
 pub mod Turning
+pub mod Growing
 pub mod Closing
 pub mod Passing
 pub mod Chunks
@@ -18,3 +20,6 @@ pub mod Ending
 pub mod LastItems
 pub mod Saying
 pub mod Owning
+pub mod SameItems
+pub mod OneLog
+pub mod OneLogShown

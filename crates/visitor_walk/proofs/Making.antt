@@ -8,7 +8,7 @@ use Rattle.node_store.specs.declared.item.Edit.{Edit}
 use Rattle.node_store.specs.declared.item.Item.{Item}
 use Rattle.node_store.specs.declared.item.Item.TheVariants as I
 use Rattle.node_store.specs.Forest.{Forest, cursor_at, unreserved}
-use Rattle.node_store.specs.Edits.{moved_all}
+use Rattle.node_store.specs.Edits.{apply_all, moved_all}
 use Rattle.plugin_api.specs.Shelf.{PluginSeen, hook_at}
 use Rattle.plugin_api.proofs.ShelfLemmas.{place_kept}
 use Rattle.visitor_machine.specs.Hooks.{PickedHook}
@@ -24,10 +24,11 @@ use Rattle.visitor_walk.specs.declared.walk_end.WalkEnd.TheVariants.{Done, Faile
 use Rattle.visitor_walk.specs.Called.{CameBack, Called}
 use Rattle.visitor_walk.specs.Heard.{Heard}
 use Rattle.visitor_walk.specs.Walk.{EndsCalled}
-use Rattle.visitor_walk.specs.Turns.{AllShown}
+use Rattle.visitor_walk.specs.Turns.{AllShown, AllSure}
 use Rattle.visitor_walk.specs.Ran.{Ran, IsReady, Finishes, Breaks, Made, end_of}
 use Rattle.visitor_walk.proofs.Chunks as Chunks
 use Rattle.visitor_walk.proofs.Turning.{done_edits}
+use Rattle.visitor_walk.proofs.Sure.{sure_edited}
 use Rattle.visitor_walk.proofs.Calling.{edited_count, edited_stage, edited_frames, shown_moved, back_edits, moved_frames}
 use Rattle.visitor_walk.proofs.Hearing.{ok_of, err_of, heard_less, call_chunk}
 use Rattle.visitor_walk.proofs.Returning.{back_ran, back_state, open_ran, es, called_state, visit}
@@ -125,6 +126,8 @@ module _ {hs : List PickedHook} (limits : Limits) {begin f : Forest} {old new1 :
         let t = called_state Done err r.ran r.is v in
         let u = edited_all t q in
         let count = back_count None c in
+        let edits : u.edits ≡ r.ran.state.edits + length q = edited_count t q ∙ ap (λ k. k + length q) (done_edits hs r.ran.state (turn hs r.ran.state)) in
+        let nodes : g.nodes ≡ apply_all f.nodes q = ap (λ (y : Forest). y.nodes) c.logged ∙ ((visit Done err r.ran r.is v).edited.nodes ∙ ap (λ (y : Forest). apply_all y.nodes q) v.logged) in
         let over : nat_lt limits.edits u.edits ≡ false = ap (λ k. nat_lt limits.edits k) count ∙ e in
         let frames : AllShown g.cursors os (moved_frames t.nodes q t.frames) =
         shown_moved f.cursors g.cursors t.nodes q (λ serial d i. ap (λ (y : Forest). cursor_at y.cursors serial) c.logged ∙ ((visit Done err r.ran r.is v).edited.cursors serial d (ap (λ (y : Forest). cursor_at y.cursors serial) v.logged ∙ i) ∙ ap (λ ns. moved_all ns q (Some d)) (ap (λ (y : Forest). y.nodes) v.logged ∙ sym r.is.nodes))) os t.frames r.is.frames in (
@@ -134,6 +137,7 @@ module _ {hs : List PickedHook} (limits : Limits) {begin f : Forest} {old new1 :
               nodes = sym (back_ran Done err r.ran r.is v g None c.back c.logged).nodes;
               free = refl;
               frames = subst (λ fs. AllShown g.cursors os fs) (sym (edited_frames t q)) frames;
+              sure = subst (λ ns. AllSure ns u.edits os) (sym nodes) (subst (λ k. AllSure (apply_all f.nodes q) k os) (sym edits) (sure_edited f.nodes r.ran.state.edits q os r.is.sure));
             };
             free = r.free;
             before = λ z. absurd (let i = back_calls None c in omega arith);

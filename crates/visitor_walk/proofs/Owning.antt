@@ -5,7 +5,7 @@ use Rattle.std.specs.List.{All}
 use Rattle.std.proofs.lemmas.Bool.{false≢true, and_parts}
 use Rattle.std.proofs.lemmas.List.Elements.{All-nil, All-cons, All-head, All-tail, All-filter, All-append, All-drop, All-contains_itself}
 use Rattle.node_rows.proofs.Climb.{same_from_eqb}
-use Rattle.node_rows.specs.Nodes.{Node, is_dirty, children_of, holds}
+use Rattle.node_rows.specs.Nodes.{Node, is_dirty, holds}
 use Rattle.node_store.specs.declared.item.Event.{Event}
 use Rattle.node_store.specs.declared.item.Event.TheVariants as E
 use Rattle.node_store.specs.declared.item.Item.{Item}
@@ -14,8 +14,8 @@ use Rattle.node_store.specs.declared.item.Moment.{Moment}
 use Rattle.node_store.specs.Cursors.{through, further}
 use Rattle.node_store.specs.Edits.{can}
 use Rattle.plugin_api.specs.Shelf.{HookSeen, PluginSeen, hooks_of, hook_at}
-use Rattle.visitor_machine.specs.Hooks.{PickedHook, same_event, is_at, is_filtered, fits, hooks_at, enters, exits, enter_event, exit_event}
-use Rattle.visitor_machine.specs.Machine.{called, kind_at, key_at, Frame, State, Stage, Opening, Walking, Passing, Closing, Ended, Stopped, Move, ToPass, ToRoot, ToChild, ToEnterHook, ToExitHook, ToOnce, ToOnceExit, ToLeave, ToEnd, Nothing, at_exit, at_child, at_enter, in_tree_at, closing, at_rest, walking, turn_in, turn, item_of, done}
+use Rattle.visitor_machine.specs.Hooks.{PickedHook, is_at, is_filtered, fits, hooks_at, enters, exits, enter_event, exit_event}
+use Rattle.visitor_machine.specs.Machine.{kind_at, key_at, Frame, State, Stage, Opening, Walking, Passing, Closing, Ended, Stopped, Move, ToPass, ToRoot, ToChild, ToEnterHook, ToExitHook, ToOnce, ToOnceExit, ToLeave, ToEnd, Nothing, at_exit, at_child, at_enter, in_tree_at, closing, at_rest, walking, turn_in, turn, item_of, done}
 use Rattle.visitor_machine.specs.Follow.{same_item, is_item, by_move, step, follow, start}
 use Rattle.visitor_machine.proofs.Runs.{when_parts, by_move_parts, follow_parts}
 use Rattle.visitor_walk.specs.Picked.{hooks_from, picked_hooks}
@@ -164,7 +164,7 @@ module _ (Q : ℕ → ℕ → Type 0) where
         let d = follow_parts hs most s i (front ++ I.Call p k m ∷ rest) t e in
         call_of_own most d.mid t front p k m rest (step_of most s d.mid i h d.first).1 d.rest
 
-    started_call : (most : ℕ) (ns : List Node) (items : List Item) (t : State) (front : List Item) (p k : ℕ) (m : Moment) (rest : List Item) → follow hs most (start hs ns) items ≡ Some t → items ≡ front ++ I.Call p k m ∷ rest → Q p k
+    pub started_call : (most : ℕ) (ns : List Node) (items : List Item) (t : State) (front : List Item) (p k : ℕ) (m : Moment) (rest : List Item) → follow hs most (start hs ns) items ≡ Some t → items ≡ front ++ I.Call p k m ∷ rest → Q p k
     started_call most ns items t front p k m rest run e = call_of_own most (start hs ns) t front p k m rest (All-filter _ Has hs own) (ap (follow hs most (start hs ns)) (sym e) ∙ run)
 
 -- the hook's plugin is picked

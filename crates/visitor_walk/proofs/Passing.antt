@@ -1,5 +1,5 @@
 -- Turn after turn, and pass after pass.
-use Rattle.std.proofs.Common.{◌≡◌, ℕ, suc, ◌+◌, List, [], ◌∷◌, ◌++◌, true, false, length, Option, Some, None, refl, ap, sym, ◌∙◌, subst, reverse, append_assoc, arith, ◌≤◌, length-append}
+use Rattle.std.proofs.Common.{◌≡◌, ℕ, suc, ◌+◌, List, [], ◌∷◌, ◌++◌, true, false, length, Option, Some, None, refl, ap, sym, ◌∙◌, subst, reverse, append_assoc, arith, ◌≤◌, ◌<◌, length-append}
 use Rattle.std.proofs.lemmas.List.{length-reverse}
 use Rattle.node_rows.specs.Nodes.{is_dirty}
 use Rattle.node_rows.specs.Marks.{with_mark}
@@ -10,10 +10,12 @@ use Rattle.node_store.specs.Edits.{noted}
 use Rattle.visitor_machine.specs.Hooks.{PickedHook}
 use Rattle.visitor_machine.specs.Machine.{Frame, State, Stage, Walking, ToPass, ToRoot, walking, at_rest, turn, new_frame}
 use Rattle.visitor_machine.proofs.Turns.{follow_append}
+use Rattle.visitor_machine.specs.Settled.{IsInTree}
 use Rattle.visitor_walk.specs.declared.turn.Open.{Open}
 use Rattle.visitor_walk.specs.declared.turn.Due.{Due}
-use Rattle.visitor_walk.specs.Turns.{AllApart, AllShown, Shows, IsPass, IsPlain, Strolls, StayApart, Turned, Advanced, Began, Passed, fresh, nodes_through}
+use Rattle.visitor_walk.specs.Turns.{AllApart, AllShown, AllSure, Shows, IsPass, IsPlain, Strolls, StayApart, Turned, Advanced, Began, Passed, fresh, nodes_through}
 use Rattle.visitor_walk.proofs.Chunks.{through-append}
+use Rattle.visitor_walk.proofs.Sure.{sure_from, root_there, there_marked}
 use Rattle.visitor_walk.proofs.Turning.{stayed, moved_on}
 
 pub plain-append : (xs ys : List Item) → IsPlain xs → IsPlain ys → IsPlain (xs ++ ys)
@@ -123,18 +125,20 @@ module _ (hs : List PickedHook) (most : ℕ) (f : Forest) (s : State) (p : IsPas
       let b : Strolls hs most g [] a.state h = moved_on hs most g h [] a.state ToRoot (I.Enter 0) w.free refl refl tt refl (ap (λ (x : Forest). x.text) i) (ap (λ (x : Forest). x.log) i) (ap (λ (x : Forest). x.nodes) i ∙ ap (λ ns. with_mark ns 0 false) a.nodes) (λ serial c j k. ap (λ (x : Forest). cursor_at x.cursors serial) i ∙ j) in
       then a (λ serial c j k. tt) b
 
-  pub root_began : (g h : Forest) (old more : List Open) → old ≡ [] → more ≡ old ++ fresh 0 ∷ [] → (e : unreserved g ≡ noted (unreserved f) I.Pass) → (i : unreserved h ≡ noted (unreserved g) (I.Enter 0)) → (x : Strolls hs most f [] s h) × Began hs f h (reverse more) x.state
+  pub root_began : (g h : Forest) (old more : List Open) (edits : ℕ) → s.edits ≡ edits → 0 < length f.nodes → old ≡ [] → more ≡ old ++ fresh edits 0 ∷ [] → (e : unreserved g ≡ noted (unreserved f) I.Pass) → (i : unreserved h ≡ noted (unreserved g) (I.Enter 0)) → (x : Strolls hs most f [] s h) × Began hs f h (reverse more) x.state
   unfolding root_in passed_in
-  root_began g h old more eo em e i =
+  root_began g h old more edits q some eo em e i =
       let x = root_in g h e i in
       let none : s.frames ≡ [] = no_frames f.cursors [] s.frames refl w.frames in
-      let back : reverse more ≡ fresh 0 ∷ [] = ap reverse (em ∙ ap (λ l. l ++ fresh 0 ∷ []) eo) in (
+      let back : reverse more ≡ fresh edits 0 ∷ [] = ap reverse (em ∙ ap (λ l. l ++ fresh edits 0 ∷ []) eo) in
+      let there : IsInTree h.nodes 0 = subst (λ ns. IsInTree ns 0) (sym x.nodes) (there_marked s.nodes 0 0 (subst (λ ns. IsInTree ns 0) (sym w.nodes) (root_there f.nodes some))) in (
         x,
         (
           record {
             nodes = sym x.nodes;
             free = w.free;
-            frames = subst (λ us. AllShown h.cursors us x.state.frames) (sym back) (subst (λ fs. AllShown h.cursors (fresh 0 ∷ []) (new_frame 0 (suc s.count) ∷ fs)) (sym none) (record { node = refl; enter = refl; exit = refl; seat = refl }, (tt, tt)));
+            frames = subst (λ us. AllShown h.cursors us x.state.frames) (sym back) (subst (λ fs. AllShown h.cursors (fresh edits 0 ∷ []) (new_frame 0 (suc s.count) ∷ fs)) (sym none) (record { node = refl; enter = refl; exit = refl; seat = refl }, (tt, tt)));
+            sure = subst (λ us. AllSure h.nodes s.edits us) (sym back) (sure_from h.nodes s.edits (fresh edits 0) (sym q) there, tt);
           },
           (
             walking_is hs,

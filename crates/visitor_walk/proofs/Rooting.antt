@@ -54,6 +54,7 @@ module _ {hs : List PickedHook} {most : ℕ} {begin f : Forest} {old new : List 
           calling = ap (λ k. (done hs s k).calling) m.1 ∙ m.3;
           nodes = ap (λ k. (done hs s k).nodes) m.1 ∙ (m.4 ∙ t.shows.nodes);
           frames = subst (λ fs. AllShown f.cursors [] fs) (sym (ap (λ k. (done hs s k).frames) m.1 ∙ m.5)) t.shows.frames;
+          sure = tt;
         };
         free = t.free;
         before = t.before;

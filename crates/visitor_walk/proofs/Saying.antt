@@ -1,6 +1,6 @@
 -- What a run's faults are: one at most, which is its last item and stands behind its call.
 use Rattle.std.proofs.Common.{◌≡◌, ◌≢◌, ℕ, ◌⊎◌, inl, inr, List, [], ◌∷◌, ◌++◌, Bool, true, false, Option, Some, None, refl, ap, sym, ◌∙◌, map, append_assoc, arith, cond, subst}
-use Rattle.std.specs.Prelude.{nat_eq, ◌&&◌, if◌then◌else◌}
+use Rattle.std.specs.Prelude.{nat_eq, ◌&&◌}
 use Rattle.std.proofs.lemmas.Bool.{false≢true, and_parts, ne_eqb, eq-eqb}
 use Rattle.node_rows.proofs.Climb.{same_from_eqb}
 use Rattle.node_store.specs.declared.item.Edit.{Edit}
@@ -10,7 +10,7 @@ use Rattle.node_store.specs.declared.item.Moment.{Moment}
 use Rattle.node_store.specs.Edits.{can}
 use Rattle.visitor_machine.specs.Hooks.{PickedHook}
 use Rattle.visitor_machine.specs.Machine.{State, Stopped, Move, ToPass, ToRoot, ToChild, ToEnterHook, ToExitHook, ToOnce, ToOnceExit, ToLeave, ToEnd, Nothing, item_of, turn_in, turn, done}
-use Rattle.visitor_machine.specs.Follow.{same_item, is_item, by_move, step, back, and_then, follow}
+use Rattle.visitor_machine.specs.Follow.{same_item, is_item, by_move, step, and_then, follow}
 use Rattle.visitor_machine.specs.Calls.{call_of}
 use Rattle.visitor_machine.proofs.Runs.{when_parts, by_move_parts, follow_parts, some_same}
 use Rattle.visitor_walk.specs.Heard.{said_of}
@@ -190,11 +190,11 @@ quiet_move hs s (ToLeave n) i z h = refl
 quiet_move hs s ToEnd i z h = refl
 quiet_move hs s Nothing i z h = refl
 
-move_free : (hs : List PickedHook) (s : State) (i : Item) (b : Bool) {t : State} → by_move hs s i b ≡ Some t → b ≡ false
+pub move_free : (hs : List PickedHook) (s : State) (i : Item) (b : Bool) {t : State} → by_move hs s i b ≡ Some t → b ≡ false
 move_free hs s i true e = absurd cc
 move_free hs s i false e = refl
 
-stays_free : (hs : List PickedHook) (s t : State) (i : Item) → call_of i ≡ 0 → by_move hs s i s.calling ≡ Some t → t.calling ≡ true → ⊥
+pub stays_free : (hs : List PickedHook) (s t : State) (i : Item) → call_of i ≡ 0 → by_move hs s i s.calling ≡ Some t → t.calling ≡ true → ⊥
 stays_free hs s t i z e c =
     let p = by_move_parts hs s i s.calling e in
     false≢true (sym (move_free hs s i s.calling e) ∙ (sym (quiet_move hs s (turn hs s) i z p.0) ∙ (ap (λ x. x.calling) p.1 ∙ c)))

@@ -1,10 +1,11 @@
 -- One turn of the code is the machine's move.
-use Rattle.std.proofs.Common.{◌≡◌, ◌≢◌, inl, inr, ℕ, suc, ◌+◌, List, [], ◌∷◌, ◌++◌, Bool, true, false, length, Option, Some, None, IfOk, IsErr, Result, Ok, Err, refl, ap, sym, ◌∙◌, subst, drop, reverse, append-nil, arith, cond, sum_by, length-append, ◌≤◌}
+use Rattle.std.proofs.Common.{◌≡◌, ◌≢◌, inl, inr, ℕ, suc, ◌+◌, List, [], ◌∷◌, ◌++◌, Bool, true, false, length, Option, Some, None, IfOk, IsErr, Result, Ok, Err, refl, ap, sym, ◌∙◌, subst, drop, reverse, append-nil, arith, cond, sum_by, length-append}
 use Rattle.std.specs.declared.alloc.AllocError.{AllocError}
 use Rattle.std.proofs.lemmas.List.{reverse-append}
 use Rattle.std.proofs.lemmas.Bool.{false≢true}
 use Rattle.node_rows.specs.Nodes.{Node, node_at, no_node, holds, is_dirty}
 use Rattle.node_rows.specs.Marks.{with_mark}
+use Rattle.node_rows.specs.Sound.{IsSound}
 use Rattle.node_store.specs.declared.item.Item.{Item}
 use Rattle.node_store.specs.declared.item.Item.TheVariants as I
 use Rattle.node_store.specs.Forest.{Forest, Place, cursor_at}
@@ -12,8 +13,10 @@ use Rattle.node_store.specs.Cursors.{through, first_of}
 use Rattle.visitor_machine.specs.Hooks.{PickedHook, enters, exits, fits}
 use Rattle.visitor_machine.specs.Machine.{called, kind_at, key_at, Frame, State, Move, ToPass, ToRoot, ToChild, ToEnterHook, ToExitHook, ToOnce, ToOnceExit, ToLeave, ToEnd, Nothing, in_tree_at, at_enter, at_child, at_exit, walking, turn, item_of, done, outer, passing_on, new_frame, calling_enter, calling_exit}
 use Rattle.visitor_walk.proofs.Seating.{reseated}
+use Rattle.visitor_walk.proofs.Sure.{sure_from, sure_marked, child_there}
 use Rattle.std.proofs.lemmas.List.Sums.{sum_by-set}
 use Rattle.visitor_machine.proofs.Marks.{dirty-inside}
+use Rattle.visitor_machine.specs.Settled.{IsInTree}
 use Rattle.visitor_machine.proofs.Turns.{follow_one, step_item}
 use Rattle.visitor_walk.specs.declared.hooks.RunHook.{RunHook}
 use Rattle.visitor_walk.specs.declared.hooks.RunHooks.{RunHooks}
@@ -23,7 +26,7 @@ use Rattle.visitor_machine.specs.Hooks.{hooks_at}
 use Rattle.visitor_walk.specs.declared.turn.Open.{Open}
 use Rattle.visitor_walk.specs.declared.turn.Due.{Due}
 use Rattle.visitor_walk.specs.declared.turn.Next.{Next}
-use Rattle.visitor_walk.specs.Turns.{IsSeated, Apart, AllApart, AreOthers, IsShown, AllShown, Shows, IsPass, IsPlain, Strolls, Turned, due_child, passed_with, SameBeside, Opened, NextDirty, Leaves, Enters, fresh, Reseats, IsLess, dirty_total, nodes_through}
+use Rattle.visitor_walk.specs.Turns.{IsSeated, Apart, AllApart, AreOthers, IsShown, AllShown, Shows, IsPass, IsPlain, Strolls, Turned, due_child, passed_with, SameBeside, Opened, NextDirty, Leaves, Enters, fresh, Reseats, IsLess, IsSure, AllSure, dirty_total, nodes_through}
 
 pub reverse_last : {A : Type 0} (xs : List A) (x : A) → reverse (xs ++ x ∷ []) ≡ x ∷ reverse xs
 reverse_last xs x = reverse-append xs (x ∷ [])
@@ -171,6 +174,9 @@ module _ (hs : List PickedHook) (most : ℕ) (f : Forest) (o : Open) (os : List 
   pub seat_now : IsSeated f.cursors o.children o.node passed_now
   seat_now = top.shown.seat
 
+  pub sure_now : (edits : ℕ) → s.edits ≡ edits → IsSure f.nodes edits o
+  sure_now edits q = subst (λ k. IsSure f.nodes k o) q w.sure.0
+
   turned : turn hs s ≡ in_tree_at hs f.nodes top.f (holds f.nodes 0 o.node)
   turned = pass s.nodes s.frames ∙ (ap (λ l. walking hs s.nodes l) top.frames ∙ (ap (λ x. in_tree_at hs x top.f (holds x 0 top.f.node)) w.nodes ∙ ap (λ n. in_tree_at hs f.nodes top.f (holds f.nodes 0 n)) top.shown.node))
 
@@ -228,15 +234,16 @@ module _ (hs : List PickedHook) (most : ℕ) (f : Forest) (o : Open) (os : List 
         nodes = w.nodes ∙ sym (l.nodes ∙ r.same.nodes);
         free = w.free;
         frames = subst (λ fs. AllShown g.cursors os (outer fs)) (sym top.frames) (below_kept h.cursors g.cursors p.children os top.rest (others_still h p.children passed r) (λ serial c i a. l.kept serial a ∙ i) (below_still h p.children passed r));
+        sure = subst (λ ns. AllSure ns s.edits os) (sym (l.nodes ∙ r.same.nodes)) w.sure.1;
       },
       (record { apart = λ serial c i a. a.1; before = λ serial c i a. let k = l.before serial c i tt in let m = r.before serial k.0.0 k.0.1 k.1 in (m.0, (m.1, a)) }, refl),
     ),
   )
 
-  pub enter_due : (next : Next) (x : PickedHook × ℕ) → turn hs s ≡ ToEnterHook o.node x.0 next.behind → called o.node x.0 ≡ I.Call next.due.plugin next.due.hook next.due.moment
-      → (y : Strolls hs most f (o ∷ os) s f) × Turned hs f f (o ∷ os) (record o { enter = next.behind } ∷ os) s y.state (Some next.due)
+  pub enter_due : (edits : ℕ) (next : Next) (x : PickedHook × ℕ) → s.edits ≡ edits → IsInTree f.nodes o.node → turn hs s ≡ ToEnterHook o.node x.0 next.behind → called o.node x.0 ≡ I.Call next.due.plugin next.due.hook next.due.moment
+      → (y : Strolls hs most f (o ∷ os) s f) × Turned hs f f (o ∷ os) (record o { enter = next.behind; sure = edits } ∷ os) s y.state (Some next.due)
   unfolding strolls_not
-  enter_due next x e i = (
+  enter_due edits next x q t e i = (
     strolls_not f o.children passed_now (same_seat f o.children o.node passed_now seat_now),
     (
       record {
@@ -245,18 +252,19 @@ module _ (hs : List PickedHook) (most : ℕ) (f : Forest) (o : Open) (os : List 
         free = w.free;
         calling = ap (λ m. (done hs s m).calling) e;
         nodes = ap (λ m. (done hs s m).nodes) e ∙ w.nodes;
-        frames = subst (λ m. AllShown f.cursors (record o { enter = next.behind } ∷ os) (done hs s m).frames) (sym e)
-            (subst (λ fs. AllShown f.cursors (record o { enter = next.behind } ∷ os) (calling_enter (called o.node x.0) next.behind fs)) (sym top.frames)
+        frames = subst (λ m. AllShown f.cursors (record o { enter = next.behind; sure = edits } ∷ os) (done hs s m).frames) (sym e)
+            (subst (λ fs. AllShown f.cursors (record o { enter = next.behind; sure = edits } ∷ os) (calling_enter (called o.node x.0) next.behind fs)) (sym top.frames)
             (record { node = top.shown.node; enter = refl; exit = top.shown.exit; seat = top.shown.seat }, (top.others, top.below)));
+        sure = (sure_from f.nodes s.edits (record o { enter = next.behind; sure = edits }) (sym q) t, w.sure.1);
       },
       (record { apart = λ serial c j a. a; before = λ serial c j a. ((c, j), a) }, ap (λ m. (done hs s m).stage) e),
     ),
   )
 
-  pub exit_due : (h : Forest) (new : Option ℕ) (end : ℕ) (next : Next) (x : PickedHook × ℕ) → Reseats f h o.children new o.node passed_now → end ≡ length (enters hs (kind_at f.nodes o.node)) → turn hs s ≡ ToExitHook o.node x.0 next.behind → called o.node x.0 ≡ I.Call next.due.plugin next.due.hook next.due.moment
-      → (y : Strolls hs most f (o ∷ os) s h) × Turned hs f h (o ∷ os) (record { node = o.node; enter = end; exit = next.behind; children = new } ∷ os) s y.state (Some next.due)
+  pub exit_due : (h : Forest) (new : Option ℕ) (end edits : ℕ) (next : Next) (x : PickedHook × ℕ) → s.edits ≡ edits → IsInTree f.nodes o.node → Reseats f h o.children new o.node passed_now → end ≡ length (enters hs (kind_at f.nodes o.node)) → turn hs s ≡ ToExitHook o.node x.0 next.behind → called o.node x.0 ≡ I.Call next.due.plugin next.due.hook next.due.moment
+      → (y : Strolls hs most f (o ∷ os) s h) × Turned hs f h (o ∷ os) (record { node = o.node; enter = end; exit = next.behind; children = new; sure = edits } ∷ os) s y.state (Some next.due)
   unfolding strolls_not
-  exit_due h new end next x r l e i = (
+  exit_due h new end edits next x q t r l e i = (
     strolls_not h new passed_now r,
     (
       record {
@@ -265,9 +273,10 @@ module _ (hs : List PickedHook) (most : ℕ) (f : Forest) (o : Open) (os : List 
         free = w.free;
         calling = ap (λ m. (done hs s m).calling) e;
         nodes = ap (λ m. (done hs s m).nodes) e ∙ (w.nodes ∙ sym r.same.nodes);
-        frames = subst (λ m. AllShown h.cursors (record { node = o.node; enter = end; exit = next.behind; children = new } ∷ os) (done hs s m).frames) (sym e)
-            (subst (λ fs. AllShown h.cursors (record { node = o.node; enter = end; exit = next.behind; children = new } ∷ os) (calling_exit hs s.nodes (called o.node x.0) next.behind fs)) (sym top.frames)
+        frames = subst (λ m. AllShown h.cursors (record { node = o.node; enter = end; exit = next.behind; children = new; sure = edits } ∷ os) (done hs s m).frames) (sym e)
+            (subst (λ fs. AllShown h.cursors (record { node = o.node; enter = end; exit = next.behind; children = new; sure = edits } ∷ os) (calling_exit hs s.nodes (called o.node x.0) next.behind fs)) (sym top.frames)
             (record { node = top.shown.node; enter = ap (λ n. length (enters hs (kind_at s.nodes n))) top.shown.node ∙ (ap (λ ns. length (enters hs (kind_at ns o.node))) w.nodes ∙ sym l); exit = refl; seat = r.seat }, (others_still h new passed_now r, below_still h new passed_now r)));
+        sure = subst (λ ns. AllSure ns s.edits (record { node = o.node; enter = end; exit = next.behind; children = new; sure = edits } ∷ os)) (sym r.same.nodes) (sure_from f.nodes s.edits (record { node = o.node; enter = end; exit = next.behind; children = new; sure = edits }) (sym q) t, w.sure.1);
       },
       (record { apart = λ serial c j a. ((r.kept serial c j a.0).1, a.1); before = λ serial c j a. let m = r.before serial c j a.0 in (m.0, (m.1, a.1)) }, ap (λ m. (done hs s m).stage) e),
     ),
@@ -281,14 +290,14 @@ module _ (hs : List PickedHook) (most : ℕ) (f : Forest) (o : Open) (os : List 
         | inr q ↦ moved_on hs most f g (o ∷ os) s (ToChild x.0 (passed_now + x.1)) (I.Enter x.0) w.free i refl tt refl (n.text ∙ r.same.text) (q.1 ∙ ap (λ l. l ++ I.Enter x.0 ∷ []) r.same.log) (q.0 ∙ ap (λ ns. with_mark ns x.0 false) (r.same.nodes ∙ sym w.nodes)) kept
       ]
 
-  pub entered : (h g : Forest) (old more : List Open) (new : Option ℕ) (end : ℕ) (x : ℕ × ℕ) → Reseats f h o.children new o.node (passed_now + x.1) → end ≡ length (enters hs (kind_at f.nodes o.node)) → turn hs s ≡ ToChild x.0 (passed_now + x.1) → os ≡ reverse old
-      → Enters h g old more (record { node = o.node; enter = end; exit = o.exit; children = new }) x.0 (Ok tt) → (y : Strolls hs most f (o ∷ os) s g) × Turned hs f g (o ∷ os) (reverse more) s y.state None
-  entered h g old more new end x r l e eo n =
-      let p : Open = record { node = o.node; enter = end; exit = o.exit; children = new } in
+  pub entered : (h g : Forest) (old more : List Open) (new : Option ℕ) (end edits : ℕ) (x : ℕ × ℕ) → s.edits ≡ edits → IsInTree f.nodes o.node → IsInTree f.nodes x.0 → Reseats f h o.children new o.node (passed_now + x.1) → end ≡ length (enters hs (kind_at f.nodes o.node)) → turn hs s ≡ ToChild x.0 (passed_now + x.1) → os ≡ reverse old
+      → Enters h g old more (record { node = o.node; enter = end; exit = o.exit; children = new; sure = edits }) x.0 (Ok tt) → (y : Strolls hs most f (o ∷ os) s g) × Turned hs f g (o ∷ os) (reverse more) s y.state None
+  entered h g old more new end edits x q t tc r l e eo n =
+      let p : Open = record { node = o.node; enter = end; exit = o.exit; children = new; sure = edits } in
       let ok = n.ok in
       let nodes : g.nodes ≡ with_mark s.nodes x.0 false = ok.0 ∙ ap (λ ns. with_mark ns x.0 false) (r.same.nodes ∙ sym w.nodes) in
-      let back : reverse more ≡ fresh x.0 ∷ p ∷ os = ap reverse ok.2 ∙ (reverse_last (old ++ p ∷ []) (fresh x.0) ∙ (ap (λ l. fresh x.0 ∷ l) (reverse_last old p) ∙ ap (λ l. fresh x.0 ∷ p ∷ l) (sym eo))) in
-      let shown : AllShown h.cursors (fresh x.0 ∷ p ∷ os) (new_frame x.0 s.count ∷ passing_on hs s.nodes (passed_now + x.1) s.frames) = (
+      let back : reverse more ≡ fresh edits x.0 ∷ p ∷ os = ap reverse ok.2 ∙ (reverse_last (old ++ p ∷ []) (fresh edits x.0) ∙ (ap (λ l. fresh edits x.0 ∷ l) (reverse_last old p) ∙ ap (λ l. fresh edits x.0 ∷ p ∷ l) (sym eo))) in
+      let shown : AllShown h.cursors (fresh edits x.0 ∷ p ∷ os) (new_frame x.0 s.count ∷ passing_on hs s.nodes (passed_now + x.1) s.frames) = (
         record { node = refl; enter = refl; exit = refl; seat = refl },
         (
           tt,
@@ -301,13 +310,14 @@ module _ (hs : List PickedHook) (most : ℕ) (f : Forest) (o : Open) (os : List 
           record {
             nodes = sym nodes;
             free = w.free;
-            frames = subst (λ us. AllShown g.cursors us (new_frame x.0 s.count ∷ passing_on hs s.nodes (passed_now + x.1) s.frames)) (sym back) (subst (λ cs. AllShown cs (fresh x.0 ∷ p ∷ os) (new_frame x.0 s.count ∷ passing_on hs s.nodes (passed_now + x.1) s.frames)) (sym n.cursors) shown);
+            frames = subst (λ us. AllShown g.cursors us (new_frame x.0 s.count ∷ passing_on hs s.nodes (passed_now + x.1) s.frames)) (sym back) (subst (λ cs. AllShown cs (fresh edits x.0 ∷ p ∷ os) (new_frame x.0 s.count ∷ passing_on hs s.nodes (passed_now + x.1) s.frames)) (sym n.cursors) shown);
+            sure = subst (λ us. AllSure g.nodes s.edits us) (sym back) (subst (λ ns. AllSure ns s.edits (fresh edits x.0 ∷ p ∷ os)) (sym nodes) (sure_marked s.nodes x.0 s.edits (fresh edits x.0 ∷ p ∷ os) (subst (λ ns. AllSure ns s.edits (fresh edits x.0 ∷ p ∷ os)) (sym w.nodes) (sure_from f.nodes s.edits (fresh edits x.0) (sym q) tc, (sure_from f.nodes s.edits p (sym q) t, w.sure.1)))));
           },
           (
             record {
               apart = λ serial c j a. subst (λ us. AllApart us serial) (sym back) (tt, ((r.kept serial c j a.0).1, a.1));
               before = λ serial c j a.
-                  let b : AllApart (fresh x.0 ∷ p ∷ os) serial = subst (λ us. AllApart us serial) back a in
+                  let b : AllApart (fresh edits x.0 ∷ p ∷ os) serial = subst (λ us. AllApart us serial) back a in
                   let m = r.before serial c (sym (ap (λ cs. cursor_at cs serial) n.cursors) ∙ j) b.1.0 in
                   (m.0, (m.1, b.1.1));
             },
@@ -329,17 +339,17 @@ module _ (hs : List PickedHook) (most : ℕ) (f : Forest) (o : Open) (os : List 
       let d = first_some child (due_child f.nodes o.node passed_now) r.0 in
       (d.0, d.1, d.2, subst (λ x. Reseats f h o.children new o.node (passed_with passed_now x)) d.1 r.1)
 
-  pub child_entered : (h1 h g : Forest) (old more : List Open) (new : Option ℕ) (end child : ℕ) → holds f.nodes 0 o.node ≡ true → next_enter ≡ None → Opened f h1 o.node o.children (Ok new) → NextDirty h1 h new (Some child) → end ≡ length (enters hs (kind_at f.nodes o.node)) → os ≡ reverse old
-      → Enters h g old more (record { node = o.node; enter = end; exit = o.exit; children = new }) child (Ok tt) → (y : Strolls hs most f (o ∷ os) s g) × Turned hs f g (o ∷ os) (reverse more) s y.state None
-  child_entered h1 h g old more new end child ho e a b l eo n =
+  pub child_entered : (h1 h g : Forest) (old more : List Open) (new : Option ℕ) (end child edits : ℕ) → s.edits ≡ edits → IsSound f.nodes → IsInTree f.nodes o.node → next_enter ≡ None → Opened f h1 o.node o.children (Ok new) → NextDirty h1 h new (Some child) → end ≡ length (enters hs (kind_at f.nodes o.node)) → os ≡ reverse old
+      → Enters h g old more (record { node = o.node; enter = end; exit = o.exit; children = new; sure = edits }) child (Ok tt) → (y : Strolls hs most f (o ∷ os) s g) × Turned hs f g (o ∷ os) (reverse more) s y.state None
+  child_entered h1 h g old more new end child edits q sound t e a b l eo n =
       let x = came_to h1 h new child a b in
-      entered h g old more new end x.0 x.3 l (due_child_now x.0 ho e x.1) eo (subst (λ m. Enters h g old more (record { node = o.node; enter = end; exit = o.exit; children = new }) m (Ok tt)) (sym x.2) n)
+      entered h g old more new end edits x.0 q t (child_there f.nodes o.node passed_now x.0 sound x.1 t) x.3 l (due_child_now x.0 t.1 e x.1) eo (subst (λ m. Enters h g old more (record { node = o.node; enter = end; exit = o.exit; children = new; sure = edits }) m (Ok tt)) (sym x.2) n)
 
-  pub child_fails : (h1 h g : Forest) (old more : List Open) (new : Option ℕ) (end child : ℕ) (err : AllocError) → holds f.nodes 0 o.node ≡ true → next_enter ≡ None → Opened f h1 o.node o.children (Ok new) → NextDirty h1 h new (Some child)
-      → Enters h g old more (record { node = o.node; enter = end; exit = o.exit; children = new }) child (Err err) → Strolls hs most f (o ∷ os) s g
-  child_fails h1 h g old more new end child err ho e a b n =
+  pub child_fails : (h1 h g : Forest) (old more : List Open) (new : Option ℕ) (end child edits : ℕ) (err : AllocError) → holds f.nodes 0 o.node ≡ true → next_enter ≡ None → Opened f h1 o.node o.children (Ok new) → NextDirty h1 h new (Some child)
+      → Enters h g old more (record { node = o.node; enter = end; exit = o.exit; children = new; sure = edits }) child (Err err) → Strolls hs most f (o ∷ os) s g
+  child_fails h1 h g old more new end child edits err ho e a b n =
       let x = came_to h1 h new child a b in
-      let p : Open = record { node = o.node; enter = end; exit = o.exit; children = new } in
+      let p : Open = record { node = o.node; enter = end; exit = o.exit; children = new; sure = edits } in
       enter_fails h g old more p x.0 (passed_now + x.0.1) err x.3 (due_child_now x.0 ho e x.1) (subst (λ m. Enters h g old more p m (Err err)) (sym x.2) n)
 
   pub open_fails : (h : Forest) (err : AllocError) → Opened f h o.node o.children (Err err) → Strolls hs most f (o ∷ os) s h
@@ -379,20 +389,7 @@ less_entered f h1 h g old more new p child a b n =
     let j : h.nodes ≡ h1.nodes = b.same.nodes in
     let d : suc (dirty_total (with_mark h.nodes child false)) ≡ dirty_total h.nodes = dirty_less h.nodes child (subst (λ ns. is_dirty ns child ≡ true) (sym j) b.dirty) in
     let k : dirty_total h.nodes ≡ dirty_total f.nodes = ap dirty_total (j ∙ a.nodes) in
-    let l : length more ≡ length ((old ++ p ∷ []) ++ fresh child ∷ []) = ap length n.ok.2 in
-    let q : length ((old ++ p ∷ []) ++ fresh child ∷ []) ≡ length (old ++ p ∷ []) + 1 = length-append (old ++ p ∷ []) (fresh child ∷ []) in
+    let l : length more ≡ length ((old ++ p ∷ []) ++ fresh p.sure child ∷ []) = ap length n.ok.2 in
+    let q : length ((old ++ p ∷ []) ++ fresh p.sure child ∷ []) ≡ length (old ++ p ∷ []) + 1 = length-append (old ++ p ∷ []) (fresh p.sure child ∷ []) in
     let r : length (old ++ p ∷ []) ≡ length old + 1 = length-append old (p ∷ []) in
     (omega arith, omega arith)
-
-pub grows_same : {f g : Forest} → SameBeside f g → length f.log ≤ length g.log
-grows_same h = let e = ap length h.log in omega arith
-
-pub grows_left : {f g : Forest} {o : Open} (r : Result (Unit {0}) AllocError) → Leaves f g o r → length f.log ≤ length g.log
-grows_left {f} {g} {o} (Ok u) h = let e : length g.log ≡ length (f.log ++ I.Leave o.node ∷ []) = ap length h.log in let i : length (f.log ++ I.Leave o.node ∷ []) ≡ length f.log + 1 = length-append f.log (I.Leave o.node ∷ []) in omega arith
-grows_left (Err x) h = let e = ap length h.log in omega arith
-
-pub grows_entered : {f g : Forest} {old more : List Open} {o : Open} {child : ℕ} (r : Result (Unit {0}) AllocError) → Enters f g old more o child r → length f.log ≤ length g.log
-grows_entered {f} {g} {child = child} r h = elim h.noted [
-  | inl q ↦ let e = ap length q.1 in omega arith
-  | inr q ↦ let e : length g.log ≡ length (f.log ++ I.Enter child ∷ []) = ap length q.1 in let i : length (f.log ++ I.Enter child ∷ []) ≡ length f.log + 1 = length-append f.log (I.Enter child ∷ []) in omega arith
-]

@@ -6,3 +6,5 @@ pub mod Turns
 pub mod Called
 pub mod Ran
 pub mod Laws
+pub mod OneLog
+pub mod OneLogExamples

@@ -12,6 +12,7 @@ use Rattle.node_store.specs.declared.item.Event.TheVariants as E
 use Rattle.visitor_machine.specs.Hooks.{PickedHook, fits, is_at}
 use Rattle.visitor_machine.specs.Machine.{called, key_at, Frame, Stage, State, turn_in, walking, turn, item_of, done, closing}
 use Rattle.visitor_machine.specs.Follow.{follow}
+use Rattle.visitor_machine.specs.Settled.{IsInTree}
 use Rattle.visitor_walk.specs.declared.turn.Open.{Open}
 use Rattle.visitor_walk.specs.declared.turn.Due.{Due}
 use Rattle.visitor_walk.specs.declared.turn.Next.{Next}
@@ -52,11 +53,21 @@ AllShown cs [] [] = Unit {0}
 AllShown cs (o ∷ os) (f ∷ fs) = IsShown cs o f × (AreOthers o.children os × AllShown cs os fs)
 AllShown cs _ _ = ⊥
 
+-- A visit was known to be in the tree at no later edit than the last, and where it was at the last, its node is in the tree.
+pub record IsSure (ns : List Node) (edits : ℕ) (o : Open) : Type 0 where
+  pub past : o.sure ≤ edits
+  pub there : o.sure ≡ edits → IsInTree ns o.node
+
+abbrev pub AllSure : List Node → ℕ → List Open → Type 0
+AllSure ns edits [] = Unit {0}
+AllSure ns edits (o ∷ os) = IsSure ns edits o × AllSure ns edits os
+
 -- the code stands where the machine does
 pub record Shows (f : Forest) (os : List Open) (s : State) : Type 0 where
   pub nodes : s.nodes ≡ f.nodes
   pub free : s.calling ≡ false
   pub frames : AllShown f.cursors os s.frames
+  pub sure : AllSure f.nodes s.edits os
 
 -- the stage is one of a pass
 abbrev pub IsPass : List PickedHook → Stage → Type 0
@@ -112,6 +123,7 @@ pub record IsDue (hs : List PickedHook) (g : Forest) (os : List Open) (t : State
   pub calling : (done hs t (turn hs t)).calling ≡ true
   pub nodes : (done hs t (turn hs t)).nodes ≡ g.nodes
   pub frames : AllShown g.cursors os (done hs t (turn hs t)).frames
+  pub sure : AllSure g.nodes t.edits os
 
 -- after a turn: nothing is due yet, or a call is
 abbrev pub Turned : List PickedHook → Forest → Forest → List Open → List Open → State → State → Option Due → Type 0
@@ -183,16 +195,16 @@ pub record Leaves (f g : Forest) (o : Open) (r : Result (Unit {0}) AllocError) :
   pub kept : (serial : ℕ) → Apart o.children serial → cursor_at g.cursors serial ≡ cursor_at f.cursors serial
   pub before : IfOk r (λ _. IsOld f g o.children None)
 
--- the visit of a node that is entered
-abbrev pub fresh : ℕ → Open
-fresh n = record { node = n; enter = 0; exit = 0; children = None }
+-- the visit of a node that is entered, which was known to be in the tree at that edit
+abbrev pub fresh : ℕ → ℕ → Open
+fresh sure n = record { node = n; enter = 0; exit = 0; children = None; sure = sure }
 
 -- The child is entered, with a visit of its own; after want of memory it may be entered, or not.
 pub record Enters (f g : Forest) (old new : List Open) (o : Open) (child : ℕ) (r : Result (Unit {0}) AllocError) : Type 0 where
   pub text : g.text ≡ f.text
   pub cursors : g.cursors ≡ f.cursors
   pub noted : ((g.nodes ≡ f.nodes) × (g.log ≡ f.log)) ⊎ ((g.nodes ≡ with_mark f.nodes child false) × (g.log ≡ f.log ++ I.Enter child ∷ []))
-  pub ok : IfOk r (λ _. (g.nodes ≡ with_mark f.nodes child false) × (g.log ≡ f.log ++ I.Enter child ∷ []) × (new ≡ (old ++ o ∷ []) ++ fresh child ∷ []))
+  pub ok : IfOk r (λ _. (g.nodes ≡ with_mark f.nodes child false) × (g.log ≡ f.log ++ I.Enter child ∷ []) × (new ≡ (old ++ o ∷ []) ++ fresh o.sure child ∷ []))
 
 -- the call of the first hook, at or after `from`, that fits the key of the node, and the place behind it
 pub record IsNext (ns : List Node) (hooks : List RunHook) (n from : ℕ) (next : Next) : Type 0 where

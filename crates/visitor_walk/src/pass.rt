@@ -16,20 +16,21 @@ use node_store::item::Item;
 use node_store::work::Work;
 use std::alloc::AllocError;
 
-// Turns until a call is due, or no visit is open.
+// Turns until a call is due, or no visit is open. `edits` is how many edits were made so far.
 fn advance(
     work: &mut Work,
     hooks: &RunHooks,
     stack: &mut Vec<Open>,
+    edits: u64,
 ) -> Result<Option<Due>, AllocError>
-    ensures walked { (hs : List PickedHook) (most : ℕ) (s : State) → IsGrouped hooks.now hs → IsPass hs s.stage → Shows work.old (reverse stack.old.items) s →
+    ensures walked { (hs : List PickedHook) (most : ℕ) (s : State) → IsGrouped hooks.now hs → IsPass hs s.stage → Shows work.old (reverse stack.old.items) s → s.edits ≡ edits →
         (w : Strolls hs most work.old (reverse stack.old.items) s work.new) × IfOk result (λ r. Advanced hs work.old work.new (reverse stack.old.items) (reverse stack.new.items) w.state r) }
     ensures less { IfOk result (λ _. dirty_total work.new.nodes ≤ dirty_total work.old.nodes) }
     ensures grows { length work.old.log ≤ length work.new.log }
     ensures calls { (shelf : List PluginSeen) → AllOnShelf shelf hooks.now → IfOk result (λ r. IfSome r (λ due. IsOnShelf shelf due)) }
 {
     while let Some(top) = stack.pop() {
-        if let Some(due) = take_turn(work, hooks, stack, top)? {
+        if let Some(due) = take_turn(work, hooks, stack, top, edits)? {
             return Ok(Some(due));
         }
     }
@@ -37,8 +38,8 @@ fn advance(
 }
 
 // Begins a pass, where no visit is open and the root is dirty.
-fn begin_pass(work: &mut Work, stack: &mut Vec<Open>) -> Result<(), AllocError>
-    ensures walked { (hs : List PickedHook) (most : ℕ) (s : State) → IsPass hs s.stage → Shows work.old [] s → is_dirty work.old.nodes 0 ≡ true → stack.old.items ≡ [] →
+fn begin_pass(work: &mut Work, stack: &mut Vec<Open>, edits: u64) -> Result<(), AllocError>
+    ensures walked { (hs : List PickedHook) (most : ℕ) (s : State) → IsPass hs s.stage → Shows work.old [] s → is_dirty work.old.nodes 0 ≡ true → stack.old.items ≡ [] → s.edits ≡ edits →
         (w : Strolls hs most work.old [] s work.new) × IfOk result (λ _. Began hs work.old work.new (reverse stack.new.items) w.state) }
     ensures grows { length work.old.log ≤ length work.new.log }
     ensures less { is_dirty work.old.nodes 0 ≡ true → IfOk result (λ _. suc (dirty_total work.new.nodes) ≡ dirty_total work.old.nodes) }
@@ -52,29 +53,32 @@ fn begin_pass(work: &mut Work, stack: &mut Vec<Open>) -> Result<(), AllocError>
         enter: 0,
         exit: 0,
         children: None,
+        sure: edits,
     })?;
     Ok(())
 }
 
-/// The passes until a call is due, or until the root is clean and no visit is open.
+/// The passes until a call is due, or until the root is clean and no visit is open. `edits` is how many edits were made so
+/// far.
 pub fn run_passes(
     work: &mut Work,
     hooks: &RunHooks,
     stack: &mut Vec<Open>,
+    edits: u64,
 ) -> Result<Option<Due>, AllocError>
-    ensures walked { (hs : List PickedHook) (most : ℕ) (s : State) → IsGrouped hooks.now hs → IsPass hs s.stage → Shows work.old (reverse stack.old.items) s →
+    ensures walked { (hs : List PickedHook) (most : ℕ) (s : State) → IsGrouped hooks.now hs → IsPass hs s.stage → Shows work.old (reverse stack.old.items) s → s.edits ≡ edits →
         (w : Strolls hs most work.old (reverse stack.old.items) s work.new) × IfOk result (λ r. Passed hs work.old work.new (reverse stack.old.items) (reverse stack.new.items) w.state r) }
     ensures grows { length work.old.log ≤ length work.new.log }
     ensures calls { (shelf : List PluginSeen) → AllOnShelf shelf hooks.now → IfOk result (λ r. IfSome r (λ due. IsOnShelf shelf due)) }
 {
     'pass: loop {
-        if let Some(due) = advance(work, hooks, stack)? {
+        if let Some(due) = advance(work, hooks, stack, edits)? {
             return Ok(Some(due));
         }
         if !is_root_dirty(work) {
             return Ok(None);
         }
-        begin_pass(work, stack)?;
+        begin_pass(work, stack, edits)?;
     }
 }
 

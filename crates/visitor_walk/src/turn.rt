@@ -1,5 +1,5 @@
 // The walk between two calls.
-ghost use Rattle.std.specs.Prelude.{◌≡◌, ℕ, ◌+◌, ◌<◌, ◌≤◌, ◌*◌, ◌∷◌, ◌++◌, [], reverse, length, List, IfOk, IfSome, MatchOption, None, drop};
+ghost use Rattle.std.specs.Prelude.{◌≡◌, ℕ, ◌+◌, ◌<◌, ◌≤◌, ◌*◌, ◌∷◌, ◌++◌, [], reverse, length, List, true, IfOk, IfSome, MatchOption, None, drop};
 ghost use Rattle.node_rows.specs.Nodes.{holds};
 ghost use Rattle.node_store.specs.Forest.{cursor_at};
 ghost use Rattle.node_store.specs.declared.item.Item.TheVariants as I;
@@ -8,7 +8,7 @@ ghost use Rattle.visitor_machine.specs.Hooks.{PickedHook, fits};
 ghost use Rattle.visitor_machine.specs.Machine.{State, key_at};
 ghost use Rattle.plugin_api.specs.Shelf.{PluginSeen};
 ghost use Rattle.visitor_walk.specs.Groups.{IsGrouped, shown_hooks};
-ghost use Rattle.visitor_walk.specs.Turns.{IsNext, Opened, NextDirty, Closes, Leaves, Enters, Shows, IsPass, Strolls, Turned, IsLess, AreOnShelf, AllOnShelf, IsOnShelf};
+ghost use Rattle.visitor_walk.specs.Turns.{IsNext, Opened, NextDirty, Closes, Leaves, Enters, Shows, IsPass, Strolls, Turned, IsLess, IsSure, AreOnShelf, AllOnShelf, IsOnShelf};
 
 use crate::fits::next_fitting;
 use crate::hooks::{RunHook, RunHooks};
@@ -20,13 +20,15 @@ use node_store::item::{Item, Moment};
 use node_store::work::Work;
 use std::alloc::AllocError;
 
-/// An open visit: its node, how many enter and exit hooks are passed, and the cursor over its children once it was needed.
+/// An open visit: its node, how many enter and exit hooks are passed, the cursor over its children once it was needed, and
+/// after how many edits its node was last known to be in the tree.
 #[derive(Drop)]
 pub struct Open {
     pub node: NodeId,
     pub enter: usize,
     pub exit: usize,
     pub children: Option<Cursor>,
+    pub sure: u64,
 }
 
 /// A call that is due.
@@ -139,33 +141,53 @@ fn enter(
     ensures { Enters work.old work.new stack.old.items stack.new.items visit child result }
 {
     work.note(Item::Enter(child))?;
+    let sure = visit.sure;
     stack.push(visit)?;
     stack.push(Open {
         node: child,
         enter: 0,
         exit: 0,
         children: None,
+        sure,
     })?;
     Ok(())
 }
 
-/// One turn of the innermost visit: it is left, or a child is entered, or a call is due.
+// Whether the visit's node is in the tree. That is asked, at the cost of the node's depth, only where edits were made
+// since it was last known.
+fn is_there(work: &Work, visit: &Open, edits: u64) -> bool
+    ensures value { IsSure work.now.nodes edits visit.now → result ≡ holds work.now.nodes 0 visit.now.node }
+    ensures given { result ≡ true → visit.now.node < length work.now.nodes }
+{
+    if visit.sure == edits {
+        // It is in the tree then, and its number is one of those given out.
+        visit.node.number() < work.node_total()
+    } else {
+        is_in_tree(work, visit.node)
+    }
+}
+
+/// One turn of the innermost visit: it is left, or a child is entered, or a call is due. `edits` is how many edits were
+/// made so far.
 pub fn take_turn(
     work: &mut Work,
     hooks: &RunHooks,
     stack: &mut Vec<Open>,
     mut top: Open,
+    edits: u64,
 ) -> Result<Option<Due>, AllocError>
-    ensures walked { (hs : List PickedHook) (most : ℕ) (s : State) → IsGrouped hooks.now hs → IsPass hs s.stage → Shows work.old (top ∷ reverse stack.old.items) s →
+    ensures walked { (hs : List PickedHook) (most : ℕ) (s : State) → IsGrouped hooks.now hs → IsPass hs s.stage → Shows work.old (top ∷ reverse stack.old.items) s → s.edits ≡ edits →
         (w : Strolls hs most work.old (top ∷ reverse stack.old.items) s work.new) × IfOk result (λ r. Turned hs work.old work.new (top ∷ reverse stack.old.items) (reverse stack.new.items) s w.state r) }
     ensures less { IfOk result (λ r. IsLess work.old work.new stack.old.items stack.new.items r) }
     ensures grows { length work.old.log ≤ length work.new.log }
     ensures calls { (shelf : List PluginSeen) → AllOnShelf shelf hooks.now → IfOk result (λ r. IfSome r (λ due. IsOnShelf shelf due)) }
 {
-    if !is_in_tree(work, top.node) {
+    work.facts();
+    if !is_there(work, &top, edits) {
         leave(work, top)?;
         return Ok(None);
     }
+    top.sure = edits;
     let kind = kind(work, top.node);
     let enters = hooks.at(enter_event(kind));
     if let Some(next) = next_call(work, enters, top.node, top.enter) {
@@ -178,6 +200,7 @@ pub fn take_turn(
         enter: _,
         exit,
         children,
+        sure,
     } = top;
     let enter_end = enters.len();
     let children = opened(work, node, children)?;
@@ -187,6 +210,7 @@ pub fn take_turn(
             enter: enter_end,
             exit,
             children,
+            sure,
         };
         enter(work, stack, visit, child)?;
         return Ok(None);
@@ -198,6 +222,7 @@ pub fn take_turn(
             enter: enter_end,
             exit: next.behind,
             children,
+            sure,
         })?;
         return Ok(Some(next.due));
     }
@@ -208,6 +233,7 @@ pub fn take_turn(
             enter: enter_end,
             exit,
             children,
+            sure,
         },
     )?;
     Ok(None)

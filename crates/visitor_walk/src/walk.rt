@@ -147,7 +147,7 @@ fn call_in_passes(
         IfOk result (λ _. AllOnShelf (seen shelf.new.items) hooks.now) }
 {
     let mut stack = Vec::new(alloc);
-    'call: while let Some(due) = run_passes(work, hooks, &mut stack)? {
+    'call: while let Some(due) = run_passes(work, hooks, &mut stack, spent.edits)? {
         if let Some(end) = make_call(alloc, work, shelf, limits, spent, due)? {
             close_all(work, &mut stack);
             return Ok(Some(end));

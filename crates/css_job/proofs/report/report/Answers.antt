@@ -4,7 +4,7 @@ use Rattle.std.proofs.lemmas.List.{length-map}
 use Rattle.std.specs.Prelude.{encode_utf8_all}
 use Rattle.std.specs.Str.{chars}
 use Rattle.std.specs.List.{flat_map}
-use Rattle.css_job.specs.Faults.{line}
+use Rattle.css_job.specs.Trace.{line}
 use Rattle.css_job.specs.Report.{warning_line, total_line}
 use Rattle.css_job.specs.Shown.{warning_seen}
 use Rattle.css_job.proofs.Joined.{pushed_onto}

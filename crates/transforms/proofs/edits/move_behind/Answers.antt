@@ -1,7 +1,3 @@
-use Rattle.std.proofs.Common.{[], ◌∷◌, suc}
-use Rattle.node_rows.specs.Nodes.{place_of}
-use Rattle.node_store.specs.declared.item.Edit.TheVariants as E
-use Rattle.edit_calls.specs.Plans.{inserting_after}
 use Rattle.transforms.proofs.Planned.{some_of, unrefused-plan, front, behind-plan}
 use Rattle.transforms.proofs.edits.move_behind.Goals as goal
 

@@ -1,5 +1,4 @@
-use Rattle.std.proofs.Common.{◌++◌, ◌∷◌, [], ap, ◌∙◌}
-use Rattle.std.specs.String.{string_bytes}
+use Rattle.std.proofs.Common.{◌∷◌, []}
 use Rattle.value_parse.proofs.Trees.{push_chars}
 use Rattle.transforms.proofs.Shorts.{char-spelled}
 use lib.Utf8.{encode}

@@ -1,9 +1,8 @@
-use Rattle.std.proofs.Common.{◌≡◌, refl, sym, ap, ◌∙◌, [], ◌∷◌}
+use Rattle.std.proofs.Common.{ap}
 use Rattle.std.specs.Str.{chars}
 use Rattle.std.specs.declared.alloc.Global.{Global}
 use Rattle.std.specs.declared.dyn_box.DynBox.{DynBox}
 use Rattle.plugin_api.specs.Shelf.{shelf_seen}
-use Rattle.transforms.specs.Shipped.{shipped_plugins}
 use Rattle.transforms.proofs.Shelved.{one_hook, two_hooks, put, shipped_few, shipped_four}
 use Rattle.transforms.proofs.shelf.shipped.Goals as goal
 

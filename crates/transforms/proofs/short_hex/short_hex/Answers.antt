@@ -1,4 +1,4 @@
-use Rattle.std.proofs.Common.{◌≡◌, [], ◌∷◌, rules, arith, Some, Ok, ap, sym, ◌∙◌, subst}
+use Rattle.std.proofs.Common.{◌≡◌, [], ◌∷◌, rules, arith, Some, Ok, sym, subst}
 use Rattle.std.specs.Prelude.{IfOk, MatchOption}
 use Rattle.std.specs.Str.{chars}
 use Rattle.css_tree.specs.declared.node.Field.TheVariants as F

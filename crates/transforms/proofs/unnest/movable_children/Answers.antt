@@ -1,7 +1,7 @@
 use Rattle.std.proofs.Common.{◌≡◌, [], ◌∷◌, ◌++◌, length, ap, sym, ◌∙◌, subst, arith, append_assoc}
 use Rattle.std.specs.Prelude.{filter}
 use Rattle.std.proofs.lemmas.List.Elements.{filter-append}
-use Rattle.node_rows.specs.Nodes.{text_of, children_of, siblings, from_number, IsGiven}
+use Rattle.node_rows.specs.Nodes.{text_of, siblings, from_number, IsGiven}
 use Rattle.node_rows.proofs.Behind.{from-next, next-given}
 use Rattle.node_store.proofs.Ahead.{front-case}
 use Rattle.plugin_api.specs.Effect.{is_movable}

@@ -1,9 +1,6 @@
-use Rattle.std.proofs.Common.{◌≡◌, [], ◌∷◌, ◌++◌, ℕ, List, rules, Some, None, true, false, refl, ap, sym, ◌∙◌, subst, arith}
-use Rattle.std.specs.Prelude.{is_ok, is_some, IsSome, filter}
+use Rattle.std.proofs.Common.{◌≡◌, [], ◌∷◌, ◌++◌, rules, true, false, refl, ap, sym, ◌∙◌, subst, arith}
+use Rattle.std.specs.Prelude.{is_ok, IsSome}
 use Rattle.std.specs.Option.{option_to_list}
-use Rattle.node_rows.specs.Nodes.{text_of, parent_of, children_of}
-use Rattle.plugin_api.specs.Effect.{is_movable}
-use Rattle.transforms.specs.Fronts.{MakesFront}
 use Rattle.transforms.proofs.Planned.{some_of}
 use Rattle.transforms.proofs.Going.{out, outs, Going, going-start, going-next, going-stopped, going-done, last-parent, last-movable, front-ok, none_left}
 use Rattle.transforms.proofs.unnest.move_all.Goals as goal

@@ -1,13 +1,13 @@
-use Rattle.std.proofs.Common.{◌≡◌, [], ◌∷◌, ◌++◌, ℕ, suc, List, rules, Some, true, false, nat_eq, ap, sym, ◌∙◌, subst}
+use Rattle.std.proofs.Common.{◌≡◌, [], ◌∷◌, ◌++◌, ℕ, suc, List, rules, true, false, nat_eq, ap, sym, ◌∙◌, subst}
 use Rattle.std.specs.Prelude.{is_ok, IsSome}
 use Rattle.std.specs.List.{position_or_len}
 use Rattle.std.specs.Str.{chars}
 use Rattle.css_tree.specs.declared.node.Field.TheVariants as F
-use Rattle.node_rows.specs.Nodes.{Node, text_of, parent_of, place_of}
+use Rattle.node_rows.specs.Nodes.{text_of, place_of}
 use Rattle.node_rows.proofs.SameLinks.{SameLinks}
 use Rattle.node_store.specs.declared.item.Edit.{Edit}
 use Rattle.node_store.specs.declared.item.Edit.TheVariants.{Set, Insert, Remove}
-use Rattle.plugin_api.specs.Effect.{changing, own_selector, moved_out}
+use Rattle.plugin_api.specs.Effect.{changing, own_selector}
 use Rattle.transforms.specs.Fronts.{MakesFront}
 use Rattle.transforms.specs.Reads.{selector_of}
 use Rattle.transforms.proofs.Going.{front-stopped, front-then, front-ok, selector-links}

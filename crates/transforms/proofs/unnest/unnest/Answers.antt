@@ -1,4 +1,4 @@
-use Rattle.std.proofs.Common.{◌≡◌, sym, ◌∙◌}
+use Rattle.std.proofs.Common.{sym, ◌∙◌}
 use Rattle.std.specs.Prelude.{filter, reverse}
 use Rattle.std.specs.List.{flat_map}
 use Rattle.node_rows.specs.Nodes.{text_of, parent_of, children_of}

@@ -1,4 +1,4 @@
-use Rattle.std.proofs.Common.{ℕ, List, reverse, length, ◌+◌, ◌*◌, ◌≤◌}
+use Rattle.std.proofs.Common.{◌≡◌, ℕ, List, reverse, length, ◌+◌, ◌*◌, ◌≤◌}
 use Rattle.visitor_machine.specs.Hooks.{PickedHook}
 use Rattle.visitor_machine.specs.Machine.{State}
 use Rattle.visitor_walk.specs.Groups.{IsGrouped}
@@ -8,7 +8,7 @@ use Rattle.visitor_walk.proofs.pass.advance.Given as goal
 
 abbrev pub invariant-loop-top : goal.invariant-loop-top
 invariant-loop-top l = record {
-  walked : (hs : List PickedHook) (most : ℕ) (s : State) → IsGrouped l.hooks hs → IsPass hs s.stage → Shows l.fn.work (reverse l.fn.stack.items) s → Stood hs most l.fn.work (reverse l.fn.stack.items) s l.work (reverse l.stack.items);
+  walked : (hs : List PickedHook) (most : ℕ) (s : State) → IsGrouped l.hooks hs → IsPass hs s.stage → Shows l.fn.work (reverse l.fn.stack.items) s → s.edits ≡ l.edits → Stood hs most l.fn.work (reverse l.fn.stack.items) s l.work (reverse l.stack.items);
   grows : length l.fn.work.log ≤ length l.work.log;
   less : dirty_total l.work.nodes ≤ dirty_total l.fn.work.nodes;
 }

@@ -1,6 +1,8 @@
-use Rattle.std.proofs.Common.{◌<◌, ◌++◌, ◌∷◌, [], length, subst, sym, ap, ◌∙◌, arith}
+use Rattle.std.proofs.Common.{◌<◌, ◌++◌, ◌∷◌, [], length, refl, subst, sym, ap, ◌∙◌, arith}
 use Rattle.node_rows.specs.Nodes.{new_node}
 use Rattle.node_rows.specs.Shown.{shown_rows, IsLinked}
+use Rattle.node_rows.specs.Fingers.{IsFinger}
+use Rattle.node_rows.proofs.Fingers.{IsFinger-pushed}
 use Rattle.node_rows.proofs.Join.{length-shown}
 use Rattle.node_rows.proofs.Pushed.{shown-pushed, IsLinked-pushed}
 use Rattle.node_rows.proofs.rows.Rows.add.Goals as goal
@@ -9,11 +11,14 @@ pub invariant_of-self-2 : goal.invariant_of-self-2
 invariant_of-self-2 c =
     let rs = c.self.inside.items.items in
     let few : length rs < 33554433 = rw (← length-shown rs) (rw c.self.view_is c.requires) in
-    subst IsLinked (sym c.in_ok-push.ensures.items) (IsLinked-pushed rs c.self.invariant c.args.text c.args.span few)
+    subst (λ l. IsLinked l × IsFinger (shown_rows l) c.self.inside.finger) (sym c.in_ok-push.ensures.items) (
+      IsLinked-pushed rs c.self.invariant.0 c.args.text c.args.span few,
+      subst (λ l. IsFinger l c.self.inside.finger) (sym (shown-pushed rs c.self.invariant.0 c.args.text c.args.span)) (IsFinger-pushed (shown_rows rs) (new_node c.args.text c.args.span) c.self.inside.finger refl c.self.invariant.1),
+    )
 
 pub returns : goal.returns
 returns c =
     let rs = c.self.inside.items.items in (
       omega (arith, c.len-number.ensures, c.self.inside.items.ok.0, length-shown rs, ap length c.self.view_is),
-      ap shown_rows c.in_ok-push.ensures.items ∙ (shown-pushed rs c.self.invariant c.args.text c.args.span ∙ ap (λ l. l ++ new_node c.args.text c.args.span ∷ []) c.self.view_is),
+      ap shown_rows c.in_ok-push.ensures.items ∙ (shown-pushed rs c.self.invariant.0 c.args.text c.args.span ∙ ap (λ l. l ++ new_node c.args.text c.args.span ∷ []) c.self.view_is),
     )
