@@ -14,11 +14,6 @@ pub input_chars : chars input_name ≡ input_name
 unfolding chars
 input_chars = refl
 
--- a text without characters
-pub empty_text : (t bytes : List ℕ) → t ≡ chars bytes → bytes ≡ [] → t ≡ []
-unfolding chars
-empty_text t bytes e n = e ∙ ap chars n
-
 pub input_bytes : encode_utf8_all input_name ≡ input_name
 unfolding encode
 input_bytes = refl

@@ -80,7 +80,7 @@ fn walk_writes(
 {
     let mut writes = Vec::new(alloc);
     if is_traced {
-        let text = Txt::from_string(trace(alloc, shelf, log)?);
+        let text = Txt::from_string(alloc, trace(alloc, shelf, log)?)?;
         writes.push(Write {
             to: Target::StdErr,
             text,
@@ -160,13 +160,8 @@ fn transform(
 fn lint(alloc: Global, warnings: &[Warning]) -> Result<Prepared, AllocError>
     ensures { IfOk result (λ p. stage_seen p ≡ record { plan = reported (map warning_seen warnings.now); log = []; work = None }) }
 {
-    let text = report(alloc, INPUT_NAME, warnings)?;
-    let plan = one_write(
-        alloc,
-        Target::StdErr,
-        Txt::from_string(text),
-        lint_status(warnings),
-    )?;
+    let text = Txt::from_string(alloc, report(alloc, INPUT_NAME, warnings)?)?;
+    let plan = one_write(alloc, Target::StdErr, text, lint_status(warnings))?;
     Ok(unwalked(alloc, plan))
 }
 

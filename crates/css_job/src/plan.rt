@@ -35,7 +35,7 @@ pub fn stop(alloc: Global, fault: Fault, status: u8) -> Plan
 {
     Plan {
         fault: Some(fault),
-        caller: Txt::from_string(String::new(alloc)),
+        caller: Txt::empty(),
         status,
         writes: Vec::new(alloc),
     }
@@ -53,7 +53,7 @@ pub fn one_write(alloc: Global, to: Target, text: Txt, status: u8) -> Result<Pla
     writes.push(Write { to, text })?;
     Ok(Plan {
         fault: None,
-        caller: Txt::from_string(String::new(alloc)),
+        caller: Txt::empty(),
         status,
         writes,
     })

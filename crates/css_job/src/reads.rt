@@ -7,6 +7,7 @@ use css_tree::node::NodeText;
 use node_store::id::NodeId;
 use node_store::work::Work;
 
+/// The texts of a node, as the store's `node_text`.
 pub fn text_of(work: &Work, n: NodeId) -> &NodeText
     requires { n < length work.now.nodes }
     ensures { result.now ≡ text_of work.now.nodes n }
@@ -17,6 +18,7 @@ pub fn text_of(work: &Work, n: NodeId) -> &NodeText
     }
 }
 
+/// Where a node stands in the sheet, in bytes; none for a node that a plugin made.
 pub fn span_of(work: &Work, n: NodeId) -> Option<Span>
     requires { n < length work.now.nodes }
     ensures { result ≡ span_of work.now.nodes n }
@@ -27,6 +29,7 @@ pub fn span_of(work: &Work, n: NodeId) -> Option<Span>
     }
 }
 
+/// The node that a node stands in; none for the root and for a loose node.
 pub fn parent_of(work: &Work, n: NodeId) -> Option<NodeId>
     requires { n < length work.now.nodes }
     ensures { result ≡ parent_of work.now.nodes n }
@@ -37,6 +40,7 @@ pub fn parent_of(work: &Work, n: NodeId) -> Option<NodeId>
     }
 }
 
+/// The first node in a node's block; none where there is none.
 pub fn first_child(work: &Work, n: NodeId) -> Option<NodeId>
     requires { n < length work.now.nodes }
     ensures { result ≡ slice_get (children_of work.now.nodes n) 0 }
@@ -47,6 +51,7 @@ pub fn first_child(work: &Work, n: NodeId) -> Option<NodeId>
     }
 }
 
+/// The node behind a node in the same block; none behind the last.
 pub fn next_sibling(work: &Work, n: NodeId) -> Option<NodeId>
     requires { n < length work.now.nodes }
     ensures { result ≡ next_sibling_of work.now.nodes n }

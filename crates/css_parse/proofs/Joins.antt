@@ -36,3 +36,8 @@ one_text (p ∷ q ∷ ps) d a b e = absurd (omega arith)
 
 pub two_texts : (ps : List Piece) (n : ℕ) → join (take n ps) ++ join (drop n ps) ≡ join ps
 two_texts ps n = sym (join-append (take n ps) (drop n ps)) ∙ ap join (take-append-drop n ps)
+
+-- the first text, and those of the rest
+pub first_joined : (ps : List Piece) (d : Piece) (t : List ℕ) → 1 ≤ length ps → d ≡ get_or ps 0 d → t ≡ d.text → t ++ join (drop 1 ps) ≡ join ps
+first_joined [] d t l e k = absurd (omega arith)
+first_joined (p ∷ ps) d t l e k = ap (λ z. z ++ join ps) (k ∙ ap (λ q. q.text) e ∙ sym (join-one p)) ∙ sym (join-append (p ∷ []) ps)

@@ -11,10 +11,10 @@ ghost use Rattle.css_parse.specs.Values.{IsValue, IsValueLen, IsPast};
 use crate::mark::{Mark, find_mark};
 use crate::piece::Piece;
 use crate::spaces;
-use crate::texts::{lead_len, push_pieces, solid_len, source_of, text_of};
+use crate::texts::{Texts, end_of, lead_len, solid_len, source_of, text_of, with_pieces};
 use css_text::txt::Txt;
 use css_tree::node::{Block, NodeText, Source};
-use std::alloc::{AllocError, Global};
+use std::alloc::AllocError;
 
 /// The value of a declaration, and its mark.
 #[derive(Drop)]
@@ -25,15 +25,17 @@ struct Value {
 }
 
 /// A comment.
-pub fn comment(alloc: Global, before: &str, piece: &Piece) -> Result<NodeText, AllocError>
+pub fn comment(texts: Texts, before: &str, piece: &Piece) -> Result<NodeText, AllocError>
     requires { shape piece.now ≡ S.comment }
     ensures { IfOk result (λ n. n ≡ comment_text (gap_of (chars before.now)) piece.now) }
 {
     let parts = spaces::trim(piece.inner());
-    let before = Txt::new(alloc, before)?;
-    let left = Txt::new(alloc, parts.left)?;
-    let text = Txt::new(alloc, parts.text)?;
-    let right = Txt::new(alloc, parts.right)?;
+    let before = texts.before(piece.start(), before)?;
+    let inner = piece.start() + 2;
+    let left = texts.at(inner, parts.left)?;
+    let text_start = end_of(inner, parts.left);
+    let text = texts.at(text_start, parts.text)?;
+    let right = texts.at(end_of(text_start, parts.text), parts.right)?;
     Ok(NodeText::Comment {
         before: Some(before),
         left,
@@ -51,7 +53,7 @@ fn unless_empty(front: usize, end: usize, place: usize) -> usize
 
 /// An at-rule, of an at-word and what stands behind it.
 pub fn at_rule(
-    alloc: Global,
+    texts: Texts,
     before: &str,
     word: &Piece,
     rest: &[Piece],
@@ -62,14 +64,14 @@ pub fn at_rule(
 {
     let front = lead_len(rest);
     let end = front + solid_len(&rest[front..]);
-    let before = Txt::new(alloc, before)?;
-    let name = Txt::new(alloc, word.name())?;
-    let source = text_of(alloc, &rest[front..end])?;
-    let params = source_of(alloc, source)?;
+    let before = texts.before(word.start(), before)?;
+    let name = texts.at(word.start() + 1, word.name())?;
+    let source = text_of(texts, &rest[front..end])?;
+    let params = source_of(texts.alloc, source)?;
     let name_end = unless_empty(front, end, front);
-    let after_name = text_of(alloc, &rest[..name_end])?;
+    let after_name = text_of(texts, &rest[..name_end])?;
     let between_start = unless_empty(front, end, end);
-    let between = text_of(alloc, &rest[between_start..])?;
+    let between = text_of(texts, &rest[between_start..])?;
     Ok(NodeText::AtRule {
         before: Some(before),
         name,
@@ -80,20 +82,21 @@ pub fn at_rule(
     })
 }
 
-/// A rule, of the pieces before its `{`.
+/// A rule, which begins at the byte `start`, of the pieces before its `{`.
 pub fn rule(
-    alloc: Global,
+    texts: Texts,
     before: &str,
+    start: u32,
     run: &[Piece],
     block: Block,
 ) -> Result<NodeText, AllocError>
     ensures { IfOk result (λ n. n ≡ rule_text (gap_of (chars before.now)) run.now block) }
 {
     let end = solid_len(run);
-    let before = Txt::new(alloc, before)?;
-    let source = text_of(alloc, &run[..end])?;
-    let selector = source_of(alloc, source)?;
-    let between = text_of(alloc, &run[end..])?;
+    let before = texts.before(start, before)?;
+    let source = text_of(texts, &run[..end])?;
+    let selector = source_of(texts.alloc, source)?;
+    let between = text_of(texts, &run[end..])?;
     Ok(NodeText::Rule {
         before: Some(before),
         selector,
@@ -102,25 +105,29 @@ pub fn rule(
     })
 }
 
-/// The text before the mark, without its trailing blanks.
-fn value_text(alloc: Global, pieces: &[Piece], word: &str) -> Result<Txt, AllocError>
+/// The text before the mark, without its trailing blanks. The word stands at the byte `start`.
+fn value_text(texts: Texts, pieces: &[Piece], start: u32, word: &str) -> Result<Txt, AllocError>
     ensures { IfOk result (λ t. t ≡ join pieces.now ++ chars word.now) }
 {
-    let mut text = String::new(alloc);
-    push_pieces(&mut text, pieces)?;
-    text.push_str(word)?;
-    Ok(Txt::from_string(text))
+    if pieces.is_empty() {
+        return texts.at(start, word);
+    }
+    let text = text_of(texts, pieces)?;
+    text.followed_by(texts.alloc, word)
 }
 
 /// The blanks before the mark, and the mark.
-fn mark_text(alloc: Global, blanks: &[Piece], word: &str, rest: &[Piece]) -> Result<Txt, AllocError>
+fn mark_text(
+    texts: Texts,
+    blanks: &[Piece],
+    start: u32,
+    word: &str,
+    rest: &[Piece],
+) -> Result<Txt, AllocError>
     ensures { IfOk result (λ t. t ≡ join blanks.now ++ (chars word.now ++ join rest.now)) }
 {
-    let mut text = String::new(alloc);
-    push_pieces(&mut text, blanks)?;
-    text.push_str(word)?;
-    push_pieces(&mut text, rest)?;
-    Ok(Txt::from_string(text))
+    let text = value_text(texts, blanks, start, word)?;
+    with_pieces(texts.alloc, text, rest)
 }
 
 /// How many pieces before the mark's word are no trailing blanks of the value.
@@ -135,39 +142,40 @@ fn value_len(body: &[Piece], mark: &Mark) -> usize
     }
 }
 
-fn read_value(alloc: Global, body: &[Piece]) -> Result<Value, AllocError>
+fn read_value(texts: Texts, body: &[Piece]) -> Result<Value, AllocError>
     ensures { IfOk result (λ v. IsValue v body.now) }
 {
     match find_mark(body) {
-        None => unmarked_value(alloc, body),
-        Some(mark) => marked_value(alloc, body, &mark),
+        None => unmarked_value(texts, body),
+        Some(mark) => marked_value(texts, body, &mark),
     }
 }
 
-fn unmarked_value(alloc: Global, body: &[Piece]) -> Result<Value, AllocError>
+fn unmarked_value(texts: Texts, body: &[Piece]) -> Result<Value, AllocError>
     requires { mark_of body.now ≡ None }
     ensures { IfOk result (λ v. IsValue v body.now) }
 {
-    let text = text_of(alloc, body)?;
-    let source = source_of(alloc, text)?;
-    let important_raw = Txt::new(alloc, "")?;
+    let text = text_of(texts, body)?;
+    let source = source_of(texts.alloc, text)?;
     Ok(Value {
         source,
         important: false,
-        important_raw,
+        important_raw: Txt::empty(),
     })
 }
 
-fn marked_value(alloc: Global, body: &[Piece], mark: &Mark) -> Result<Value, AllocError>
+fn marked_value(texts: Texts, body: &[Piece], mark: &Mark) -> Result<Value, AllocError>
     requires { IsMarkOf mark.now body.now }
     ensures { IfOk result (λ v. IsValue v body.now) }
 {
     let end = value_len(body, mark);
-    let text = value_text(alloc, &body[..end], mark.word.front)?;
-    let source = source_of(alloc, text)?;
+    let start = body[mark.before].start();
+    let text = value_text(texts, &body[..end], start, mark.word.front)?;
+    let source = source_of(texts.alloc, text)?;
     let important_raw = mark_text(
-        alloc,
+        texts,
         &body[end..mark.before],
+        end_of(start, mark.word.front),
         mark.word.back,
         &body[mark.before + 1..],
     )?;
@@ -178,13 +186,12 @@ fn marked_value(alloc: Global, body: &[Piece], mark: &Mark) -> Result<Value, All
     })
 }
 
-/// The gap before a declaration, and its hack.
-fn before_text(alloc: Global, before: &str, hack: &str) -> Result<Txt, AllocError>
+/// The gap before a declaration, and its hack, which stands at the byte `start`.
+fn before_text(texts: Texts, start: u32, before: &str, hack: &str) -> Result<Txt, AllocError>
     ensures { IfOk result (λ t. t ≡ chars before.now ++ chars hack.now) }
 {
-    let mut text = String::from_str(alloc, before)?;
-    text.push_str(hack)?;
-    Ok(Txt::from_string(text))
+    let text = texts.before(start, before)?;
+    text.followed_by(texts.alloc, hack)
 }
 
 /// Behind the colon, which stands at that place.
@@ -197,7 +204,7 @@ fn past_colon(rest: &[Piece], front: usize) -> usize
 
 /// A declaration, of a word and what stands behind it.
 pub fn declaration(
-    alloc: Global,
+    texts: Texts,
     before: &str,
     word: &Piece,
     rest: &[Piece],
@@ -208,11 +215,11 @@ pub fn declaration(
     let colon = past_colon(rest, front);
     let start = colon + lead_len(&rest[colon..]);
     let end = start + solid_len(&rest[start..]);
-    let before = before_text(alloc, before, word.hack())?;
-    let prop = Txt::new(alloc, word.prop())?;
-    let between = text_of(alloc, &rest[..start])?;
-    let value = read_value(alloc, &rest[start..end])?;
-    let tail = text_of(alloc, &rest[end..])?;
+    let before = before_text(texts, word.start(), before, word.hack())?;
+    let prop = texts.at(word.start() + word.hack_len() as u32, word.prop())?;
+    let between = text_of(texts, &rest[..start])?;
+    let value = read_value(texts, &rest[start..end])?;
+    let tail = text_of(texts, &rest[end..])?;
     Ok(NodeText::Declaration {
         before: Some(before),
         prop,

@@ -22,18 +22,21 @@ impl Model for Found {
 }
 
 impl Found {
+    /// The fault of that kind at that byte.
     pub fn new(kind: SyntaxKind, at: u32) -> Found
         ensures { result ≡ record { kind = kind; at = at } }
     {
         Found { kind, at }
     }
 
+    /// What is wrong there.
     pub fn kind(&self) -> SyntaxKind
         ensures { result ≡ self.now.kind }
     {
         self.kind
     }
 
+    /// The bytes before it, a byte order mark among them.
     pub fn at(&self) -> u32
         ensures { result ≡ self.now.at }
     {

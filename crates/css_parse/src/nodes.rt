@@ -9,10 +9,11 @@ ghost use Rattle.css_parse.specs.Machine.{comment_node, leaf_node, open_node, op
 
 use crate::fields;
 use crate::piece::{Piece, Shape};
+use crate::texts::Texts;
 use css_text::lexer::Span;
 use css_tree::node::{Block, NodeText};
 use node_rows::node_list::NodeAt;
-use std::alloc::{AllocError, Global};
+use std::alloc::AllocError;
 
 /// A container's end before it is known.
 pub fn open_end() -> Block
@@ -55,7 +56,7 @@ fn span(start: u32, end: u32) -> Span
 }
 
 pub fn comment_node(
-    alloc: Global,
+    texts: Texts,
     parent: u32,
     gap: &str,
     piece: &Piece,
@@ -63,13 +64,13 @@ pub fn comment_node(
     requires { shape piece.now ≡ S.comment }
     ensures { IfOk result (λ n. n ≡ comment_node parent (chars gap.now) piece.now) }
 {
-    let text = fields::comment(alloc, gap, piece)?;
+    let text = fields::comment(texts, gap, piece)?;
     let span = span(piece.start(), piece.end());
     Ok(NodeAt { parent, text, span })
 }
 
 /// A declaration, or an at-rule without a block.
-pub fn leaf_node(alloc: Global, parent: u32, gap: &str, run: &[Piece]) -> Result<NodeAt, AllocError>
+pub fn leaf_node(texts: Texts, parent: u32, gap: &str, run: &[Piece]) -> Result<NodeAt, AllocError>
     requires { 0 < length run.now }
     ensures { IfOk result (λ n. n ≡ leaf_node parent (chars gap.now) run.now) }
 {
@@ -78,12 +79,12 @@ pub fn leaf_node(alloc: Global, parent: u32, gap: &str, run: &[Piece]) -> Result
     let end = last_end(word.end(), rest);
     match word.shape() {
         Shape::AtName => {
-            let text = fields::at_rule(alloc, gap, word, rest, None)?;
+            let text = fields::at_rule(texts, gap, word, rest, None)?;
             let span = span(word.start(), end);
             Ok(NodeAt { parent, text, span })
         }
         _ => {
-            let text = fields::declaration(alloc, gap, word, rest)?;
+            let text = fields::declaration(texts, gap, word, rest)?;
             let span = span(word.start() + word.hack_len() as u32, end);
             Ok(NodeAt { parent, text, span })
         }
@@ -92,7 +93,7 @@ pub fn leaf_node(alloc: Global, parent: u32, gap: &str, run: &[Piece]) -> Result
 
 /// A rule, or an at-rule with a block, before its end is known.
 pub fn open_node(
-    alloc: Global,
+    texts: Texts,
     parent: u32,
     gap: &str,
     run: &[Piece],
@@ -100,19 +101,20 @@ pub fn open_node(
 ) -> Result<NodeAt, AllocError>
     ensures { IfOk result (λ n. n ≡ open_node parent (chars gap.now) run.now opening.now) }
 {
-    let text = block_text(alloc, gap, run)?;
-    let span = span(first_start(run, opening), opening.end());
+    let start = first_start(run, opening);
+    let text = block_text(texts, gap, start, run)?;
+    let span = span(start, opening.end());
     Ok(NodeAt { parent, text, span })
 }
 
-fn block_text(alloc: Global, gap: &str, run: &[Piece]) -> Result<NodeText, AllocError>
+fn block_text(texts: Texts, gap: &str, start: u32, run: &[Piece]) -> Result<NodeText, AllocError>
     ensures { IfOk result (λ t. t ≡ block_text_of (gap_of (chars gap.now)) run.now open_end) }
 {
     match run {
-        [] => fields::rule(alloc, gap, run, open_end()),
+        [] => fields::rule(texts, gap, start, run, open_end()),
         [word, rest @ ..] => match word.shape() {
-            Shape::AtName => fields::at_rule(alloc, gap, word, rest, Some(open_end())),
-            _ => fields::rule(alloc, gap, run, open_end()),
+            Shape::AtName => fields::at_rule(texts, gap, word, rest, Some(open_end())),
+            _ => fields::rule(texts, gap, start, run, open_end()),
         },
     }
 }

@@ -15,21 +15,20 @@ use crate::gap::Gap;
 use crate::nodes::{comment_node, leaf_node, open_end, open_node, set_block};
 use crate::piece::{Piece, Shape};
 use crate::run::Run;
-use crate::texts::solid_len;
+use crate::texts::{Texts, end_of, solid_len};
 use crate::turn::{Frame, Step, fits, fits_end, turn};
 use css_text::lexer::Span;
 use css_text::stop::Stop;
-use css_text::txt::Txt;
 use css_tree::node::{Block, NodeText};
 use node_rows::node_list::NodeAt;
-use std::alloc::{AllocError, Global};
+use std::alloc::AllocError;
 
-/// The nodes so far; the open container's number, and whether a `;` stands behind its last declaration or blockless
+/// Where texts come from; the nodes so far; the open container's number, and whether a `;` stands behind its last declaration or blockless
 /// at-rule; the containers around it; the text since the last node; the pieces of the statement in progress; and the
 /// opening pieces of the brackets that are awaited.
 #[derive(Drop)]
 pub struct Parser<'t> {
-    pub alloc: Global,
+    pub texts: Texts<'t>,
     pub nodes: Vec<NodeAt>,
     pub number: u32,
     pub semicolon: bool,
@@ -42,7 +41,7 @@ pub struct Parser<'t> {
 /// Blanks that are given back to the container: its comments become nodes.
 #[tactic(auto, using(std::proofs::lemmas::Grind::common_steps, crate::proofs::Giving::given_steps), unfolding(crate::proofs::Giving::given_nodes, crate::proofs::Giving::given_behind))]
 fn settle(
-    alloc: Global,
+    texts: Texts,
     nodes: &mut Vec<NodeAt>,
     number: u32,
     gap: &mut Gap,
@@ -56,7 +55,7 @@ fn settle(
         match piece.shape() {
             Shape::Space => gap.push(piece.text())?,
             _ => {
-                let node = comment_node(alloc, number, gap.as_str(), piece)?;
+                let node = comment_node(texts, number, gap.as_str(), piece)?;
                 nodes.push(node)?;
                 gap.clear();
             }
@@ -67,9 +66,10 @@ fn settle(
 
 impl<'t> Parser<'t> {
     /// Before the first piece of a text with so many bytes.
-    pub fn new(alloc: Global, bom: bool, size: usize) -> Result<Parser<'t>, AllocError>
+    pub fn new(texts: Texts<'t>, bom: bool, size: usize) -> Result<Parser<'t>, AllocError>
         ensures { IfOk result (λ p. model p ≡ start bom size) }
     {
+        let alloc = texts.alloc;
         let mut nodes = Vec::new(alloc);
         nodes.push(NodeAt {
             parent: 0,
@@ -83,7 +83,7 @@ impl<'t> Parser<'t> {
             },
         })?;
         Ok(Parser {
-            alloc,
+            texts,
             nodes,
             number: 0,
             semicolon: false,
@@ -105,7 +105,7 @@ impl<'t> Parser<'t> {
         requires { shape piece.now ≡ S.comment }
         ensures { IfOk result (λ _. model self.new ≡ next (model self.old) piece.now alone) }
     {
-        let node = comment_node(self.alloc, self.number, self.gap.as_str(), piece)?;
+        let node = comment_node(self.texts, self.number, self.gap.as_str(), piece)?;
         self.nodes.push(node)?;
         self.gap.clear();
         Ok(())
@@ -116,7 +116,7 @@ impl<'t> Parser<'t> {
         ensures { IfOk result (λ _. model self.new ≡ next (model self.old) piece.now ends) }
     {
         let run = self.run.as_slice();
-        let node = leaf_node(self.alloc, self.number, self.gap.as_str(), run)?;
+        let node = leaf_node(self.texts, self.number, self.gap.as_str(), run)?;
         self.nodes.push(node)?;
         self.semicolon = true;
         self.gap.clear();
@@ -130,7 +130,7 @@ impl<'t> Parser<'t> {
     {
         let number = self.nodes.len() as u32;
         let run = self.run.as_slice();
-        let node = open_node(self.alloc, self.number, self.gap.as_str(), run, &piece)?;
+        let node = open_node(self.texts, self.number, self.gap.as_str(), run, &piece)?;
         self.nodes.push(node)?;
         self.frames.push(Frame {
             number: self.number,
@@ -176,13 +176,13 @@ impl<'t> Parser<'t> {
         }
         let n = solid_len(self.run.as_slice());
         let run = &self.run.as_slice()[..n];
-        let node = leaf_node(self.alloc, self.number, self.gap.as_str(), run)?;
+        let node = leaf_node(self.texts, self.number, self.gap.as_str(), run)?;
         self.nodes.push(node)?;
         self.semicolon = false;
         self.gap.clear();
         let blanks = &self.run.as_slice()[n..];
         settle(
-            self.alloc,
+            self.texts,
             &mut self.nodes,
             self.number,
             &mut self.gap,
@@ -192,11 +192,11 @@ impl<'t> Parser<'t> {
         Ok(())
     }
 
-    /// The open container's end.
-    fn block(&self) -> Result<Block, AllocError>
+    /// The open container's end, before the byte `end`.
+    fn block(&self, end: u32) -> Result<Block, AllocError>
         ensures { IfOk result (λ b. b ≡ record { semicolon = self.now.semicolon; after = Some (self.now.gap) }) }
     {
-        let after = Txt::new(self.alloc, self.gap.as_str())?;
+        let after = self.texts.before(end, self.gap.as_str())?;
         Ok(Block {
             semicolon: self.semicolon,
             after: Some(after),
@@ -207,7 +207,7 @@ impl<'t> Parser<'t> {
         requires { self.old.number < length self.old.nodes.items }
         ensures { IfOk result (λ _. model self.new ≡ sealed (model self.old) piece.now) }
     {
-        let block = self.block()?;
+        let block = self.block(piece.start())?;
         let node = &mut self.nodes[self.number as usize];
         set_block(&mut node.text, block);
         node.span.end = piece.end() as usize;
@@ -218,7 +218,7 @@ impl<'t> Parser<'t> {
         requires { self.old.number < length self.old.nodes.items }
         ensures { IfOk result (λ _. self.new.nodes.items ≡ alter self.old.number (seal_root self.old.semicolon (self.old.gap)) self.old.nodes.items) }
     {
-        let block = self.block()?;
+        let block = self.block(end_of(0, self.texts.sheet.as_str()))?;
         set_block(&mut self.nodes[self.number as usize].text, block);
         Ok(())
     }

@@ -12,6 +12,7 @@ ghost use Rattle.css_parse.specs.Lexical.{found_of};
 use crate::found::Found;
 use crate::parser::Parser;
 use crate::piece::Piece;
+use crate::texts::Texts;
 use css_text::lexer::{self, LexFault, Lexer};
 use css_text::stop::Stop;
 use css_text::text::Text;
@@ -45,12 +46,12 @@ fn lexical(fault: LexFault) -> Found
 }
 
 /// The nodes of a text, which begins with a byte order mark or doesn't, or its first fault.
-fn read_pieces(alloc: Global, src: &str, bom: bool) -> Result<Vec<NodeAt>, Stop<Found>>
+fn read_pieces(texts: Texts, src: &str, bom: bool) -> Result<Vec<NodeAt>, Stop<Found>>
     requires short { length src.now ≤ 67108864 }
     requires bom { bom ≡ begins_bom (chars src.now) }
     ensures { IsRead result (chars src.now) }
 {
-    let mut parser = match Parser::new(alloc, bom, src.len()) {
+    let mut parser = match Parser::new(texts, bom, src.len()) {
         Ok(parser) => parser,
         Err(e) => return Err(Stop::Memory(e)),
     };
@@ -71,5 +72,9 @@ fn read_pieces(alloc: Global, src: &str, bom: bool) -> Result<Vec<NodeAt>, Stop<
 pub fn read(alloc: Global, text: &Text) -> Result<Vec<NodeAt>, Stop<Found>>
     ensures { IsNodes result text.now }
 {
-    read_pieces(alloc, text.as_str(), text.has_bom())
+    let texts = Texts {
+        alloc,
+        sheet: text.as_txt(),
+    };
+    read_pieces(texts, text.as_str(), text.has_bom())
 }

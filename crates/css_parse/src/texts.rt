@@ -1,38 +1,69 @@
 // The texts of runs of pieces.
 ghost use Rattle.std.specs.Prelude.{◌≡◌, ◌++◌, ◌≤◌, length, take, drop, IfOk};
 ghost use Rattle.std.specs.Str.{chars};
-ghost use Rattle.std.specs.String.{string_bytes};
 ghost use Rattle.css_tree.specs.Pieces.{join, is_blank};
 ghost use Rattle.css_tree.specs.Clean.{clean_of};
 ghost use Rattle.css_tree.proofs.Split.{solid, tail, lead, unlead};
 
 use crate::piece::{Piece, Shape};
 use css_text::txt::Txt;
-use css_tree::clean::clean;
+use css_tree::clean::clean_text;
 use css_tree::node::Source;
 use std::alloc::{AllocError, Global};
 
-/// Adds the texts of the pieces.
-pub fn push_pieces(text: &mut String, pieces: &[Piece]) -> Result<(), AllocError>
-    ensures { IfOk result (λ _. chars (string_bytes text.new) ≡ chars (string_bytes text.old) ++ join pieces.now) }
+/// Where the texts of nodes come from: parts of the sheet, and memory for the few that don't stand there in one piece.
+#[derive(Clone, Copy)]
+pub struct Texts<'t> {
+    pub alloc: Global,
+    pub sheet: &'t Txt,
+}
+
+/// The byte behind a text that begins there.
+pub fn end_of(start: u32, text: &str) -> u32 {
+    match u32::try_from(text.len()) {
+        Ok(len) => start.saturating_add(len),
+        Err(_) => start,
+    }
+}
+
+impl<'t> Texts<'t> {
+    /// A text that stands in the sheet at that byte.
+    pub fn at(&self, start: u32, text: &str) -> Result<Txt, AllocError>
+        ensures { IfOk result (λ t. t ≡ chars text.now) }
+    {
+        self.sheet.shared(self.alloc, start, text)
+    }
+
+    /// A text that ends in the sheet before that byte.
+    pub fn before(&self, end: u32, text: &str) -> Result<Txt, AllocError>
+        ensures { IfOk result (λ t. t ≡ chars text.now) }
+    {
+        match u32::try_from(text.len()) {
+            Ok(len) => self.at(end.saturating_sub(len), text),
+            Err(_) => Txt::new(self.alloc, text),
+        }
+    }
+}
+
+/// The text, with those of the pieces behind it.
+pub fn with_pieces(alloc: Global, mut text: Txt, pieces: &[Piece]) -> Result<Txt, AllocError>
+    ensures { IfOk result (λ t. t ≡ text ++ join pieces.now) }
 {
     for piece in pieces {
-        text.push_str(piece.text())?;
+        text = text.followed_by(alloc, piece.text())?;
     }
-    Ok(())
+    Ok(text)
 }
 
 /// The text of the pieces.
-pub fn text_of(alloc: Global, pieces: &[Piece]) -> Result<Txt, AllocError>
+pub fn text_of(texts: Texts, pieces: &[Piece]) -> Result<Txt, AllocError>
     ensures { IfOk result (λ t. t ≡ join pieces.now) }
 {
     match pieces {
-        [] => Txt::new(alloc, ""),
-        [piece] => Txt::new(alloc, piece.text()),
-        _ => {
-            let mut text = String::new(alloc);
-            push_pieces(&mut text, pieces)?;
-            Ok(Txt::from_string(text))
+        [] => Ok(Txt::empty()),
+        [first, rest @ ..] => {
+            let text = texts.at(first.start(), first.text())?;
+            with_pieces(texts.alloc, text, rest)
         }
     }
 }
@@ -41,7 +72,7 @@ pub fn text_of(alloc: Global, pieces: &[Piece]) -> Result<Txt, AllocError>
 pub fn source_of(alloc: Global, source: Txt) -> Result<Source, AllocError>
     ensures { IfOk result (λ s. s ≡ record { source = source; clean = clean_of source }) }
 {
-    let clean = clean(alloc, source.as_str())?;
+    let clean = clean_text(alloc, &source)?;
     Ok(Source { source, clean })
 }
 

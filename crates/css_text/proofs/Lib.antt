@@ -13,6 +13,7 @@ pub mod Units
 pub mod Places
 pub mod Spelled
 pub mod BlockSteps
+pub mod Shared
 pub mod Slices
 pub mod Repeats
 pub mod AsciiTests

@@ -5,6 +5,7 @@ pub mod Ahead
 pub mod Found
 pub mod Examples
 pub mod Place
+pub mod Shared
 pub mod Lines
 pub mod TextAnswer
 pub mod Blocks

@@ -7,6 +7,7 @@ ghost use Rattle.css_text.specs.Ahead.{begins_bom};
 
 use crate::lexer::bom_len;
 use crate::stop::{Stop, TextFault};
+use crate::txt::Txt;
 use crate::{blocks, lines};
 use std::alloc::Global;
 use std::marker::Model;
@@ -24,23 +25,21 @@ pub struct Place {
 /// What a clause sees of it is its characters, a byte order mark at its start among them.
 #[derive(Drop)]
 pub struct Text {
-    text: String,
+    text: Txt,
     starts: Vec<u32>,
     blocks: Vec<u32>,
 }
 
 impl Model for Text {
-    ghost use Rattle.std.specs.Prelude.{length, ◌≡◌, ◌≤◌, ℕ, List};
-    ghost use Rattle.std.specs.String.{string_bytes, string_len};
-    ghost use Rattle.std.specs.Str.{chars};
+    ghost use Rattle.std.specs.Prelude.{length, ◌≡◌, ◌≤◌, ℕ, List, encode_utf8_all};
     ghost use Rattle.css_text.specs.Lines.{starts_from};
     ghost use Rattle.css_text.specs.Blocks.{IsBlockTable};
 
     ghost Value = { List ℕ };
 
-    ghost view = { λ t. chars (string_bytes t.text) };
+    ghost view = { λ t. t.text };
 
-    ghost invariant = { λ t. (string_len t.text ≤ 67108864) × (t.starts.items ≡ starts_from 0 (string_bytes t.text)) × IsBlockTable t.blocks.items (string_bytes t.text) };
+    ghost invariant = { λ t. (length (encode_utf8_all t.text) ≤ 67108864) × (t.starts.items ≡ starts_from 0 (encode_utf8_all t.text)) × IsBlockTable t.blocks.items (encode_utf8_all t.text) };
 }
 
 impl Text {
@@ -66,14 +65,25 @@ impl Text {
             Ok(starts) => starts,
             Err(error) => return Err(Stop::Memory(error)),
         };
-        match blocks::block_units(alloc, text.as_bytes()) {
-            Ok(blocks) => Ok(Text {
+        let blocks = match blocks::block_units(alloc, text.as_bytes()) {
+            Ok(blocks) => blocks,
+            Err(error) => return Err(Stop::Memory(error)),
+        };
+        match Txt::from_string(alloc, text) {
+            Ok(text) => Ok(Text {
                 text,
                 starts,
                 blocks,
             }),
             Err(error) => Err(Stop::Memory(error)),
         }
+    }
+
+    /// The text as one whose string other texts can share.
+    pub fn as_txt(&self) -> &Txt
+        ensures { result.now ≡ self.now }
+    {
+        &self.text
     }
 
     /// The text, with a byte order mark where it begins with one.

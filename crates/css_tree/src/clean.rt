@@ -56,12 +56,19 @@ fn cleaned(alloc: Global, src: &str) -> Result<String, AllocError>
 pub fn clean(alloc: Global, src: &str) -> Result<Txt, AllocError>
     ensures { IfOk result (λ t. t ≡ clean_of (chars src.now)) }
 {
-    // A text without a star has no comment.
-    if !src.as_bytes().contains(&b'*') {
-        return Txt::new(alloc, src);
-    }
     let text = cleaned(alloc, src)?;
-    Ok(Txt::from_string(text))
+    Txt::from_string(alloc, text)
+}
+
+/// The same of a text, whose string it shares where the text has no comment.
+pub fn clean_text(alloc: Global, source: &Txt) -> Result<Txt, AllocError>
+    ensures { IfOk result (λ t. t ≡ clean_of source.now) }
+{
+    // A text without a star has no comment.
+    if !source.as_str().as_bytes().contains(&b'*') {
+        return source.share();
+    }
+    clean(alloc, source.as_str())
 }
 
 #[cfg(test)]
@@ -84,8 +91,9 @@ mod tests {
             ("1/**/2 \\/*3*/", "12 \\/*3*/"),
         ];
         for (src, want) in table {
-            let text = clean(rt.alloc(), src)?;
-            assert_eq!(rt; text.as_str(), want);
+            assert_eq!(rt; clean(rt.alloc(), src)?.as_str(), want);
+            let text = Txt::new(rt.alloc(), src)?;
+            assert_eq!(rt; clean_text(rt.alloc(), &text)?.as_str(), want);
         }
         Ok(())
     }

@@ -12,7 +12,7 @@ ghost use Rattle.edit_calls.specs.Answers.{Makes, AnswersNew};
 
 use css_text::stop::Stop;
 use css_text::txt::Txt;
-use css_tree::clean::clean;
+use css_tree::clean::clean_text;
 use css_tree::node::{Block, NodeText, Source};
 use node_store::fault::TreeFault;
 use node_store::id::NodeId;
@@ -24,7 +24,7 @@ fn written(alloc: Global, text: &str) -> Result<Source, AllocError>
     ensures { IfOk result (λ s. s ≡ written_source (chars text.now)) }
 {
     let source = Txt::new(alloc, text)?;
-    let clean = clean(alloc, text)?;
+    let clean = clean_text(alloc, &source)?;
     Ok(Source { source, clean })
 }
 

@@ -67,11 +67,12 @@ fn text_of(alloc: Global, key: Key) -> Result<String, AllocError>
 pub fn refused(alloc: Global, kind: ConfigKind, key: Key) -> Stop<ConfigFault>
     ensures { IsRefusal kind (key_of key.entry) result }
 {
-    match text_of(alloc, key) {
-        Ok(text) => Stop::Fault(ConfigFault::Refused {
-            kind,
-            key: Txt::from_string(text),
-        }),
+    let text = match text_of(alloc, key) {
+        Ok(text) => text,
+        Err(error) => return Stop::Memory(error),
+    };
+    match Txt::from_string(alloc, text) {
+        Ok(key) => Stop::Fault(ConfigFault::Refused { kind, key }),
         Err(error) => Stop::Memory(error),
     }
 }

@@ -1,10 +1,10 @@
 -- The finger stays at its place where the children of its parent stay.
-use Rattle.std.proofs.Common.{◌≡◌, ◌≢◌, ℕ, zero, suc, ◌<◌, ◌≤◌, length, insert, remove, ◌+◌, ◌-◌, arith, List, [], ◌∷◌, ◌++◌, map, Option, Some, None, Bool, refl, ap, sym, ◌∙◌, subst, append-nil, append_assoc, slice_get}
+use Rattle.std.proofs.Common.{◌≡◌, ℕ, zero, suc, ◌<◌, length, remove, ◌+◌, ◌-◌, arith, List, [], ◌∷◌, ◌++◌, map, Option, Some, None, Bool, refl, ap, sym, ◌∙◌, subst, append-nil, append_assoc, slice_get}
 use Rattle.css_tree.specs.declared.node.NodeText.{NodeText}
 use Rattle.node_rows.specs.declared.finger.Finger.{Finger}
 use Rattle.node_rows.specs.declared.growth.NewNode.{NewNode}
 use Rattle.node_rows.specs.Growth.{made}
-use Rattle.node_rows.specs.Nodes.{Node, parent_of, children_of, place_of, before_place, child_before, child_after, previous_sibling_of, next_sibling_of, linked, unlinked, with_text}
+use Rattle.node_rows.specs.Nodes.{Node, parent_of, children_of, place_of, before_place, child_before, child_after, previous_sibling_of, next_sibling_of, unlinked, with_text}
 use Rattle.node_rows.specs.Sound.{IsSound}
 use Rattle.node_rows.specs.Fingers.{IsFinger}
 use Rattle.node_rows.specs.Marks.{with_mark}
@@ -40,32 +40,10 @@ finger-place ns x p c s f i e =
     let j : p ≡ x.parent = cc in
     rw j (place_is c (children_of ns x.parent) x.place (listed_once ns c x.parent s h) g)
 
-here_inserted : (n : ℕ) (xs : List ℕ) (i : ℕ) → i ≤ length xs → slice_get (insert xs i n) i ≡ Some n
-here_inserted n xs zero h = refl
-here_inserted n [] (suc i) h = absurd (omega arith)
-here_inserted n (x ∷ xs) (suc i) h = here_inserted n xs i (omega arith)
-
 -- only n's parent and p's children differ
 module _ (ns ms : List Node) (p n : ℕ) (xs : List ℕ) (o : Option ℕ) (r : Relinked ns ms p n xs o) where
-  pub IsFinger-elsewhere : (x : Finger) → x.parent ≢ p → IsFinger ns (Some x) → IsFinger ms (Some x)
-  IsFinger-elsewhere x d f = ap (λ l. slice_get l x.place) (r.list_other x.parent d) ∙ f
-
-  pub IsFinger-here : (x : Finger) → x.parent ≡ p → slice_get xs x.place ≡ Some x.node → IsFinger ms (Some x)
+  IsFinger-here : (x : Finger) → x.parent ≡ p → slice_get xs x.place ≡ Some x.node → IsFinger ms (Some x)
   IsFinger-here x e f = ap (λ l. slice_get l x.place) (ap (children_of ms) e ∙ r.list_here) ∙ f
-
-module _ (ns : List Node) (x : Finger) (wp : x.parent < length ns) (wn : x.node < length ns) where
-  abbrev children : List ℕ
-  children = insert (children_of ns x.parent) x.place x.node
-
-  joins : Relinked ns (linked ns x.parent x.place x.node) x.parent x.node children (Some x.parent)
-  joins = Relinked-writes ns x.parent x.node children (Some x.parent) wp wn
-
-  -- the finger at the child that is put in, or at one in another parent
-  pub IsFinger-put : x.place ≤ length (children_of ns x.parent) → IsFinger (linked ns x.parent x.place x.node) (Some x)
-  IsFinger-put h = IsFinger-here ns _ x.parent x.node children (Some x.parent) joins x refl (here_inserted x.node (children_of ns x.parent) x.place h)
-
-  pub IsFinger-apart : (y : Finger) → y.parent ≢ x.parent → IsFinger ns (Some y) → IsFinger (linked ns x.parent x.place x.node) (Some y)
-  IsFinger-apart y d f = IsFinger-elsewhere ns _ x.parent x.node children (Some x.parent) joins y d f
 
 earlier_left : (xs : List ℕ) (i : ℕ) → slice_get (remove xs (suc i)) i ≡ slice_get xs i
 earlier_left [] i = refl

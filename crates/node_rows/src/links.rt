@@ -204,7 +204,8 @@ fn cut(rows: &mut Vec<Row>, p: u32, n: u32, before: Option<u32>, after: Option<u
 }
 
 impl Rows {
-    /// The child at the place, counted from 0, from the nearer end on.
+    /// The child at the place, counted from 0. It walks from the nearer end, or from a child whose place is known from the
+    /// last change where that is nearer.
     pub fn child_at(&self, n: u32, at: usize) -> Option<u32>
         requires { n < length self.now }
         ensures { result ≡ slice_get (children_of self.now n) at }
@@ -230,7 +231,8 @@ impl Rows {
     }
 
     /// Puts the loose node into `parent`, as its child at the place. It takes constant time for the first and the last
-    /// place, and else walks from the nearer end.
+    /// place, and else walks from the nearer end, or from a child whose place is known from the last change where that is
+    /// nearer.
     pub fn link(&mut self, parent: u32, at: usize, node: u32)
         requires parent_in { parent < length self.old }
         requires node_in { node < length self.old }

@@ -6,7 +6,7 @@ ghost use Rattle.css_tree.specs.Parts.{kind_of, block_raw};
 ghost use Rattle.node_rows.specs.WrittenTexts.{text_in, IsFor, has_text};
 
 use css_text::txt::Txt;
-use css_tree::clean::clean;
+use css_tree::clean::clean_text;
 use css_tree::node::{Block, Field, Kind, NodeText, Raw, Source};
 use std::alloc::{AllocError, Global};
 
@@ -28,7 +28,7 @@ impl Written {
         let source = Txt::new(alloc, s)?;
         match field {
             Field::Value | Field::Selector | Field::Params => {
-                let clean = clean(alloc, s)?;
+                let clean = clean_text(alloc, &source)?;
                 Ok(Written::Commented(Source { source, clean }))
             }
             _ => Ok(Written::Plain(source)),
@@ -65,7 +65,7 @@ fn is_source(alloc: Global, s: &str, source: &Source) -> Result<bool, AllocError
     if !is_same(s, &source.source) {
         return Ok(false);
     }
-    let text = clean(alloc, s)?;
+    let text = clean_text(alloc, &source.source)?;
     Ok(is_same(text.as_str(), &source.clean))
 }
 

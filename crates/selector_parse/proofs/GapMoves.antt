@@ -12,7 +12,7 @@ use Rattle.selector_parse.specs.Reading.{read, scan_last}
 use Rattle.selector_parse.specs.Tree.{GapKind, blank as blank_gap, comment, combinator}
 use Rattle.selector_parse.specs.Grammar.{gap_read, gap_of, is_blanks, is_some_text, gap_next}
 use Rattle.selector_parse.specs.Machine.{Place, at_start, in_gap, in_simple, in_text, or_else, pop, begin, follow, Stuck, blank_list, text_stops, open_stops, Matches, Calm, Moves}
-use Rattle.selector_parse.proofs.Moves.{apart, some_same, read_head, moved, follow_gap, gap_begun, gap_moves, if_so_parts, none_some, sign_some, gap_gaps, gap_matches, run_last, run_after}
+use Rattle.selector_parse.proofs.Moves.{some_same, read_head, moved, follow_gap, gap_begun, gap_moves, if_so_parts, none_some, sign_some, gap_gaps, gap_matches, run_last, run_after}
 
 calm_gap : (d : ℕ) (p q : Phase) (k : GapKind) (t y : List ℕ) (l f : Bool) (last : Reading) → gap_next p k t ≡ Some q → (k ≡ comment → ⊥) → Stuck last y → (q ≡ Open → open_stops d l f last y ≡ false) → (q ≡ Trailing → text_stops d y ≡ true) → Calm d q (in_gap l f last) y
 calm_gap d p q comment t y l f last e n s o v = absurd (n refl)

@@ -25,3 +25,5 @@ pub mod Whole
 pub mod Follows
 pub mod Unique
 pub mod Signs
+pub mod Words
+pub mod Sizes

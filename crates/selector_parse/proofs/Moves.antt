@@ -4,7 +4,6 @@ use Rattle.std.specs.Prelude.{◌&&◌}
 use Rattle.std.specs.Option.{is_some}
 use Rattle.std.proofs.lemmas.Bool.{agree_below_at, cases_lt, and_parts, false≢true, true≢false}
 use Rattle.css_text.specs.Characters.{is_space}
-use Rattle.css_text.specs.Forms.{begins}
 use Rattle.selector_parse.specs.declared.phase.Phase.{Phase}
 use Rattle.selector_parse.specs.declared.phase.Phase.TheVariants.{Fresh, Open, Inside, Commented, Trailing}
 use Rattle.selector_parse.specs.declared.reading.Gap.{Gap}
@@ -15,7 +14,7 @@ use Rattle.selector_parse.specs.Reading.{first, next, before_symbol, step, on, o
 use Rattle.selector_parse.specs.Tree.{GapKind, blank as blank_gap, comment, combinator}
 use Rattle.selector_parse.specs.Grammar.{gap_read, gap_of, is_blanks, is_done, is_comment, is_some_text, if_so, combinator_next, comment_next, starts, gap_next}
 use Rattle.selector_parse.specs.Row.{takes_gap}
-use Rattle.selector_parse.specs.Machine.{Place, at_start, in_gap, in_simple, in_text, Stand, or_else, pop, enders, begin, begin_gap, opener, closer, gap_end, simple_end, open_args, move, follow, Stuck, after_run, blank_list, text_stops, open_stops, Matches, Calm, Moves}
+use Rattle.selector_parse.specs.Machine.{Place, at_start, in_gap, in_simple, in_text, Stand, or_else, pop, enders, begin, begin_gap, opener, closer, gap_end, simple_end, open_args, move, follow, Stuck, after_run, text_stops, Matches, Calm}
 use Rattle.selector_parse.proofs.High.{step-past}
 
 -- no character that begins a simple selector goes on in blanks

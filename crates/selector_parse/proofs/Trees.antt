@@ -1,5 +1,5 @@
 -- Selectors as the grammar sees them, by lists.
-use Rattle.std.proofs.Common.{Vec, Global, ◌≡◌, ◌<◌, ◌≤◌, zero, suc, length, get_or, ◌+◌, arith, ℕ, List, [], ◌∷◌, ◌++◌, refl, ap, sym, ◌∙◌, map}
+use Rattle.std.proofs.Common.{max, Vec, Global, ◌≡◌, ◌<◌, ◌≤◌, length, get_or, ℕ, List, [], ◌∷◌, ◌++◌, refl, ap, sym, ◌∙◌, map}
 use Rattle.selector_parse.specs.declared.part.PartKind.{PartKind}
 use Rattle.selector_parse.specs.declared.part.PartKind.TheVariants.{Blank, Comment, Combinator, Element, Id, Class, Attribute, PseudoClass, PseudoElement, Nesting}
 use Rattle.selector_parse.specs.declared.part.Part.{Part}
@@ -12,7 +12,8 @@ use Rattle.selector_parse.specs.declared.part.Args.TheFolds.{fold_out-Part, fold
 use Rattle.selector_parse.specs.Tree.{Tree, none, comma, followed, Arguments, absent, text, list, bare, made, in_turn, after_commas, args_step, complex_step, part_step, selectors_step, args_of, part_before, complex_before, tree_of}
 use Rattle.selector_parse.specs.Row.{complex_parts, list_parts}
 use Rattle.selector_parse.specs.Normal.{normal_part, args_normal, complex_normal, part_normal, selectors_normal, normal_of_args, normal_of_part, normal_of_complex, all_of, joined}
-use Rattle.selector_parse.specs.Worth.{total, args_parts, complex_parts_of, part_parts, selectors_parts, parts_in_part, parts_in_complex, parts_in_list}
+use Rattle.std.proofs.lemmas.List.Recursion.{max_bounds, max_push}
+use Rattle.selector_parse.specs.Worth.{deepest, args_depth, complex_depth, part_depth, selectors_depth, depth_of_part, depth_of_complex}
 
 pub part_out : (p : Part) (rest : Tree) → part_before p rest ≡ made (out-Part p).kind (out-Part p).at (out-Part p).text (args_of (out-Part p).args) rest
 part_out p rest = ap (λ f. f rest) (fold_out-Part Arguments (Tree → Tree) (Tree → Tree) Tree args_step complex_step part_step selectors_step p)
@@ -82,28 +83,22 @@ tree_roll cs = search the_lemmas
 pub complex_roll : (ps : Vec Part Global) → complex_before (roll-Complex (record { parts = ps })) none ≡ complex_parts ps.items
 complex_roll ps = complex_out (roll-Complex (record { parts = ps })) none ∙ ap (λ c. in_turn (map part_before c.parts.items) none) (out-roll-Complex (record { parts = ps }))
 
--- how many parts there are with one more
-pub total-push : {A : Type 0} (f : A → ℕ) (xs : List A) (x : A) → total (map f (xs ++ x ∷ [])) ≡ total (map f xs) + f x
-total-push f [] x = omega arith
-total-push f (y ∷ ys) x = let e = total-push f ys x in omega arith
+-- how deep lists stand with one item more
+pub deepest-push : {A : Type 0} (f : A → ℕ) (xs : List A) (x : A) → deepest (map f (xs ++ x ∷ [])) ≡ max (deepest (map f xs)) (f x)
+deepest-push f xs x = max_push (λ xs. deepest (map f xs)) f refl (λ _ _. refl) xs x
 
-pub total-nil : {A : Type 0} (f : A → ℕ) (xs : List A) → xs ≡ [] → total (map f xs) ≡ 0
-total-nil f xs e = ap (λ xs. total (map f xs)) e
+pub deepest-nil : {A : Type 0} (f : A → ℕ) (xs : List A) → xs ≡ [] → deepest (map f xs) ≡ 0
+deepest-nil f xs e = ap (λ xs. deepest (map f xs)) e
 
-pub complex_few : (ps : Vec Part Global) → parts_in_complex (roll-Complex (record { parts = ps })) ≡ total (map parts_in_part ps.items)
-complex_few ps = search the_lemmas
+-- no item is deeper
+pub deepest_item : {A : Type 0} (f : A → ℕ) (xs : List A) (k : ℕ) (d : A) → k < length xs → f (get_or xs k d) ≤ deepest (map f xs)
+deepest_item f xs k d l = max_bounds (λ xs. deepest (map f xs)) f refl (λ _ _. refl) xs k d l
 
-pub list_few : (cs : Vec Complex Global) → parts_in_list (roll-Selectors (record { list = cs })) ≡ total (map parts_in_complex cs.items)
-list_few cs = search the_lemmas
+pub complex_depth_out : (c : Complex) → depth_of_complex c ≡ deepest (map depth_of_part (out-Complex c).parts.items)
+complex_depth_out c = fold_out-Complex ℕ ℕ ℕ ℕ args_depth complex_depth part_depth selectors_depth c
 
--- a complex selector of a list has no more parts than the list
-pub list_out : (s : Selectors) → parts_in_list s ≡ total (map parts_in_complex (out-Selectors s).list.items)
-list_out s = fold_out-Selectors ℕ ℕ ℕ ℕ args_parts complex_parts_of part_parts selectors_parts s
-
-pub total_item : {A : Type 0} (f : A → ℕ) (xs : List A) (k : ℕ) (d : A) → k < length xs → f (get_or xs k d) ≤ total (map f xs)
-total_item f [] k d l = absurd (omega arith)
-total_item f (x ∷ xs) zero d l = omega arith
-total_item f (x ∷ xs) (suc k) d l = let e = total_item f xs k d (omega arith) in omega arith
+pub complex_deep : (ps : Vec Part Global) → depth_of_complex (roll-Complex (record { parts = ps })) ≡ deepest (map depth_of_part ps.items)
+complex_deep ps = search the_lemmas
 
 -- normal forms by their layers
 pub normal_out : (p : Part) → normal_of_part p ≡ normal_part (out-Part p).kind (out-Part p).text (normal_of_args (out-Part p).args)

@@ -1,9 +1,12 @@
 -- Small lists of selectors and their parts.
-use Rattle.std.specs.Prelude.{◌≡◌, [], codes}
+use Rattle.std.specs.Prelude.{◌≡◌, ◌+◌, ◌^◌, [], ◌∷◌, codes}
 use Rattle.selector_parse.specs.declared.part.PartKind.TheVariants.{Element, Id, Class, Attribute, PseudoClass, PseudoElement, Nesting}
+use Rattle.selector_parse.specs.declared.part.Args.TheOpen.{Plain, List as Listed}
 use Rattle.selector_parse.specs.Tree.{none, comma, gap, simple, plain, nested, blank, comment, combinator}
 use Rattle.selector_parse.specs.Grammar.{Selects}
 use Rattle.selector_parse.specs.Normal.{sign}
+use Rattle.selector_parse.specs.Wide.{value}
+use Rattle.selector_parse.specs.Worth.{deepest, args_depth}
 
 -- a leading blank, a trailing one, and a combinator with its blanks
 abbrev pub Blanks : Type 0
@@ -24,3 +27,11 @@ Simple = Selects (codes "&:BEFORE") (simple Nesting 0 (codes "&") (simple Pseudo
 -- the sign of a combinator stands in no comment
 abbrev pub Signs : Type 0
 Signs = (sign (codes "/*>*/ + ") ≡ 43) × (sign (codes " /*>*/") ≡ 32)
+
+-- how deep lists stand: in parts side by side, and in arguments
+abbrev pub Depths : Type 0
+Depths = (deepest (0 ∷ 2 ∷ 1 ∷ []) ≡ 2) × (args_depth (Listed 2) ≡ 3) × (args_depth (Plain (codes "n")) ≡ 0)
+
+-- the words of a large number
+abbrev pub Words : Type 0
+Words = value (7 ∷ 1 ∷ []) 2 ≡ 2 ^ 64 + 7

@@ -4,6 +4,7 @@ pub mod Grammar
 pub mod Machine
 pub mod Row
 pub mod Fault
+pub mod Wide
 pub mod Worth
 pub mod Normal
 pub mod Examples

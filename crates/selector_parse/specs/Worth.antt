@@ -1,5 +1,5 @@
 -- How specific selectors are.
-use Rattle.std.specs.Prelude.{ℕ, suc, ◌+◌, Bool, true, false, ◌==◌, ◌&&◌, ◌||◌, nat_lt, if◌then◌else◌, List, [], ◌∷◌, codes, min}
+use Rattle.std.specs.Prelude.{ℕ, suc, ◌+◌, Bool, true, false, ◌==◌, ◌&&◌, ◌||◌, nat_lt, if◌then◌else◌, List, [], ◌∷◌, codes, min, max}
 use Rattle.selector_parse.specs.declared.part.PartKind.{PartKind}
 use Rattle.selector_parse.specs.declared.part.PartKind.TheVariants.{Element, Id, Class, Attribute, PseudoClass, PseudoElement}
 use Rattle.selector_parse.specs.declared.part.Part.{Part}
@@ -110,36 +110,36 @@ worth_of_list = fold-Selectors ArgsWorth Counts Counts Counts args_worth complex
 abbrev pub cut : Counts → Specificity
 cut x = record { a = min x.a 65535; b = min x.b 65535; c = min x.c 65535 }
 
--- how many parts there are, those in lists of arguments included
-abbrev pub total : List ℕ → ℕ
-total [] = 0
-total (n ∷ ns) = n + total ns
+abbrev pub deepest : List ℕ → ℕ
+deepest [] = 0
+deepest (n ∷ ns) = max n (deepest ns)
 
-abbrev pub args_parts : Args-F ℕ ℕ ℕ ℕ → ℕ
-args_parts Absent = 0
-args_parts (Plain t) = 0
-args_parts (Listed n) = n
+-- how many lists of arguments stand inside one another
+abbrev pub args_depth : Args-F ℕ ℕ ℕ ℕ → ℕ
+args_depth Absent = 0
+args_depth (Plain t) = 0
+args_depth (Listed n) = suc n
 
-abbrev pub complex_parts_of : Complex-F ℕ ℕ ℕ ℕ → ℕ
-complex_parts_of c = total c.parts.items
+abbrev pub complex_depth : Complex-F ℕ ℕ ℕ ℕ → ℕ
+complex_depth c = deepest c.parts.items
 
-abbrev pub part_parts : Part-F ℕ ℕ ℕ ℕ → ℕ
-part_parts p = suc p.args
+abbrev pub part_depth : Part-F ℕ ℕ ℕ ℕ → ℕ
+part_depth p = p.args
 
-abbrev pub selectors_parts : Selectors-F ℕ ℕ ℕ ℕ → ℕ
-selectors_parts s = total s.list.items
+abbrev pub selectors_depth : Selectors-F ℕ ℕ ℕ ℕ → ℕ
+selectors_depth s = deepest s.list.items
 
-abbrev pub parts_in_args : Args → ℕ
-parts_in_args = fold-Args ℕ ℕ ℕ ℕ args_parts complex_parts_of part_parts selectors_parts
+abbrev pub depth_of_args : Args → ℕ
+depth_of_args = fold-Args ℕ ℕ ℕ ℕ args_depth complex_depth part_depth selectors_depth
 
-abbrev pub parts_in_part : Part → ℕ
-parts_in_part = fold-Part ℕ ℕ ℕ ℕ args_parts complex_parts_of part_parts selectors_parts
+abbrev pub depth_of_part : Part → ℕ
+depth_of_part = fold-Part ℕ ℕ ℕ ℕ args_depth complex_depth part_depth selectors_depth
 
-abbrev pub parts_in_complex : Complex → ℕ
-parts_in_complex = fold-Complex ℕ ℕ ℕ ℕ args_parts complex_parts_of part_parts selectors_parts
+abbrev pub depth_of_complex : Complex → ℕ
+depth_of_complex = fold-Complex ℕ ℕ ℕ ℕ args_depth complex_depth part_depth selectors_depth
 
-abbrev pub parts_in_list : Selectors → ℕ
-parts_in_list = fold-Selectors ℕ ℕ ℕ ℕ args_parts complex_parts_of part_parts selectors_parts
+abbrev pub depth_of_list : Selectors → ℕ
+depth_of_list = fold-Selectors ℕ ℕ ℕ ℕ args_depth complex_depth part_depth selectors_depth
 
 abbrev pub size : Counts → ℕ
 size x = x.a + x.b + x.c

@@ -4,7 +4,7 @@ ghost use Rattle.std.specs.Str.{chars, IsUtf8, IsCharBoundary};
 ghost use Rattle.selector_parse.specs.Reading.{scan_len, scan_last};
 ghost use Rattle.selector_parse.specs.Tree.{made, part_before, args_of, none, absent};
 ghost use Rattle.selector_parse.specs.Grammar.{comment_next};
-ghost use Rattle.selector_parse.specs.Worth.{parts_in_args, parts_in_part};
+ghost use Rattle.selector_parse.specs.Worth.{depth_of_args, depth_of_part};
 ghost use Rattle.selector_parse.specs.Row.{IsRow, IsInsideRun, OnlyMemory, Halts, gap_choice, takes_gap};
 
 use crate::ends::stops;
@@ -31,7 +31,7 @@ pub fn make_part(
     requires high { IsCharBoundary src.now end }
     ensures part { IfOk result (λ p. part_before p none
         ≡ made kind at (chars (take (end - at) (drop at src.now))) (args_of args) none) }
-    ensures few { IfOk result (λ p. parts_in_part p ≡ 1 + parts_in_args args) }
+    ensures shallow { IfOk result (λ p. depth_of_part p ≡ depth_of_args args) }
 {
     let text = Txt::new(alloc, &src[at..end])?;
     Ok(Part {
@@ -58,7 +58,7 @@ pub fn bare_part(
     ensures part { IfOk result (λ p. (part_before p.part none
         ≡ made kind at (chars (take (end - at) (drop at src.now))) absent none) × (p.end ≡ end) × (p.phase ≡ phase)) }
     ensures memory { IfErr result OnlyMemory }
-    ensures few { IfOk result (λ p. parts_in_part p.part ≡ 1) }
+    ensures flat { IfOk result (λ p. depth_of_part p.part ≡ 0) }
 {
     let part = make_part(alloc, src, kind, at, end, Args::Absent)?;
     Ok(Placed { part, end, phase })
@@ -96,7 +96,7 @@ pub fn comment_from(
     ensures row { IfOk result (λ p. IsRow src.now at depth phase (part_before p.part none) p.phase p.end) }
     ensures longer { IfOk result (λ p. at < p.end) }
     ensures halt { IfErr result (λ e. Halts src.now at depth phase e) }
-    ensures few { IfOk result (λ p. at + parts_in_part p.part ≤ p.end) }
+    ensures flat { IfOk result (λ p. depth_of_part p.part ≡ 0) }
 {
     let (end, reading) = scan(src.as_bytes(), at, Reading::Blank(Gap::One));
     match reading {
@@ -126,7 +126,7 @@ pub fn gap_part(
     ensures row { IfOk result (λ p. IsRow src.now at depth phase (part_before p.part none) p.phase p.end) }
     ensures longer { IfOk result (λ p. at < p.end) }
     ensures halt { IfErr result (λ e. Halts src.now at depth phase e) }
-    ensures few { IfOk result (λ p. at + parts_in_part p.part ≤ p.end) }
+    ensures flat { IfOk result (λ p. depth_of_part p.part ≡ 0) }
 {
     match gap_kind(phase, gap, stops(src.as_bytes(), end, depth)) {
         Some((kind, next)) => bare_part(alloc, src, kind, at, end, next),

@@ -2,7 +2,7 @@
 ghost use Rattle.std.specs.Prelude.{◌≡◌, ℕ, List};
 ghost use Rattle.selector_parse.specs.Tree.{Tree};
 ghost use Rattle.selector_parse.specs.Grammar.{Selects};
-ghost use Rattle.selector_parse.specs.Examples.{Blanks, Notes, Lists, Simple, Signs};
+ghost use Rattle.selector_parse.specs.Examples.{Blanks, Notes, Lists, Simple, Signs, Depths, Words};
 
 /// A text has at most one list of selectors.
 pub fn at_most_one_list()
@@ -16,4 +16,6 @@ pub fn examples()
     ensures lists { Lists }
     ensures simple { Simple }
     ensures signs { Signs }
+    ensures depths { Depths }
+    ensures words { Words }
 {}

@@ -17,3 +17,4 @@ pub mod specificity;
 mod tally;
 #[cfg(test)]
 mod tests;
+mod wide;

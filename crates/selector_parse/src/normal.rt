@@ -152,5 +152,5 @@ pub fn normalised(alloc: Global, s: &Selectors) -> Result<Txt, AllocError>
     let mut texts = normal_texts(alloc, &s.list)?;
     texts.sort()?;
     let text = join(alloc, texts.as_slice())?;
-    Ok(Txt::from_string(text))
+    Txt::from_string(alloc, text)
 }

@@ -5,7 +5,7 @@ ghost use Rattle.selector_parse.specs.Reading.{scan_len, scan_last, is_final as 
 ghost use Rattle.selector_parse.specs.Tree.{made, part_before, complex_before, args_of, none, tree_of, in_turn, with_commas, written, absent, text as plain_text};
 ghost use Rattle.selector_parse.specs.Grammar.{Selects, comment_next, may_end as may_end_of};
 ghost use Rattle.selector_parse.specs.Fault.{Stops};
-ghost use Rattle.selector_parse.specs.Worth.{total, parts_in_args, parts_in_part, parts_in_complex, parts_in_list};
+ghost use Rattle.selector_parse.specs.Worth.{deepest, depth_of_args, depth_of_part, depth_of_complex, depth_of_list};
 ghost use Rattle.selector_parse.specs.Row.{IsRow, IsEnded, IsArguments, IsClosedText, IsListText, IsInsideRun, OnlyMemory, Halts, NameHalts, ListHalts, TextHalts, gap_choice, takes_gap, reads_blanks as reads_blanks_of, is_blank_list as is_blank_list_of, complex_parts, list_parts, closes as closes_of, list_stops as list_stops_of, stops as stops_of};
 
 use crate::bare::{comment_from, gap_part, make_part};
@@ -43,7 +43,7 @@ fn plain_arguments(
     requires boundary { IsCharBoundary src.now from }
     ensures row { IfOk result (λ a. IsClosedText src.now from start (args_of a.args) a.end) }
     ensures halt { IfErr result (λ e. TextHalts src.now from start e) }
-    ensures few { IfOk result (λ a. from + parts_in_args a.args ≤ a.end) }
+    ensures flat { IfOk result (λ a. depth_of_args a.args ≡ 0) }
 {
     let bytes = src.as_bytes();
     let (end, reading) = scan(bytes, from, start);
@@ -67,7 +67,7 @@ fn list_arguments(alloc: Global, src: &str, from: usize, depth: usize) -> Result
     requires inside { 0 < depth }
     ensures row { IfOk result (λ a. IsListText src.now from depth (args_of a.args) a.end) }
     ensures halt { IfErr result (λ e. ListHalts src.now from depth e) }
-    ensures few { IfOk result (λ a. from + parts_in_args a.args ≤ a.end) }
+    ensures shallow { IfOk result (λ a. depth + depth_of_args a.args ≤ 101) }
 {
     let bytes = src.as_bytes();
     if is_blank_list(bytes, from) {
@@ -100,7 +100,7 @@ fn arguments_from(
     requires depth { depth ≤ 100 }
     ensures row { IfOk result (λ a. IsArguments src.now end depth (chars (take (end - at) (drop at src.now))) (args_of a.args) a.end) }
     ensures halt { IfErr result (λ e. NameHalts src.now end depth (chars (take (end - at) (drop at src.now))) e) }
-    ensures few { IfOk result (λ a. end + parts_in_args a.args ≤ a.end) }
+    ensures shallow { IfOk result (λ a. depth + depth_of_args a.args ≤ 100) }
 {
     let bytes = src.as_bytes();
     if !has_arguments(bytes, at, end) {
@@ -138,7 +138,7 @@ fn simple_from(
     ensures row { IfOk result (λ p. IsRow src.now at depth phase (part_before p.part none) p.phase p.end) }
     ensures longer { IfOk result (λ p. at < p.end) }
     ensures halt { IfErr result (λ e. Halts src.now at depth phase e) }
-    ensures few { IfOk result (λ p. at + parts_in_part p.part ≤ p.end) }
+    ensures shallow { IfOk result (λ p. depth + depth_of_part p.part ≤ 100) }
 {
     let Some(start) = phase.starts() else {
         return Err(Failure::At(at));
@@ -176,7 +176,7 @@ fn gap_or_simple(
     ensures row { IfOk result (λ p. IsRow src.now at depth phase (part_before p.part none) p.phase p.end) }
     ensures longer { IfOk result (λ p. at < p.end) }
     ensures halt { IfErr result (λ e. Halts src.now at depth phase e) }
-    ensures few { IfOk result (λ p. at + parts_in_part p.part ≤ p.end) }
+    ensures shallow { IfOk result (λ p. depth + depth_of_part p.part ≤ 100) }
 {
     let (end, reading) = scan(src.as_bytes(), at, Reading::Blank(Gap::Comments));
     if end == at {
@@ -205,7 +205,7 @@ fn part_from(
     ensures row { IfOk result (λ p. IsRow src.now at depth phase (part_before p.part none) p.phase p.end) }
     ensures longer { IfOk result (λ p. at < p.end) }
     ensures halt { IfErr result (λ e. Halts src.now at depth phase e) }
-    ensures few { IfOk result (λ p. at + parts_in_part p.part ≤ p.end) }
+    ensures shallow { IfOk result (λ p. depth + depth_of_part p.part ≤ 100) }
 {
     match phase {
         Phase::Fresh | Phase::Inside => gap_or_simple(alloc, src, at, depth, phase),
@@ -226,7 +226,7 @@ fn complex_from(alloc: Global, src: &str, start: usize, depth: usize) -> Result<
     ensures row { IfOk result (λ r. IsEnded src.now start depth (complex_parts r.parts.items) r.end) }
     ensures last { IfOk result (λ r. stops_of src.now r.end depth ≡ true) }
     ensures halt { IfErr result (λ e. Halts src.now start depth Phase.Fresh e) }
-    ensures few { IfOk result (λ r. start + total (map parts_in_part r.parts.items) ≤ r.end) }
+    ensures shallow { IfOk result (λ r. depth + deepest (map depth_of_part r.parts.items) ≤ 100) }
 {
     let mut parts = Vec::new(alloc);
     let mut end = start;
@@ -250,7 +250,7 @@ fn list_from(alloc: Global, src: &str, start: usize, depth: usize) -> Result<Lis
     ensures row { IfOk result (λ l. IsEnded src.now start depth (list_parts l.list.items) l.end) }
     ensures last { IfOk result (λ l. list_stops_of src.now l.end depth ≡ true) }
     ensures halt { IfErr result (λ e. Halts src.now start depth Phase.Fresh e) }
-    ensures few { IfOk result (λ l. start + total (map parts_in_complex l.list.items) ≤ l.end) }
+    ensures shallow { IfOk result (λ l. depth + deepest (map depth_of_complex l.list.items) ≤ 100) }
 {
     let bytes = src.as_bytes();
     let first = complex_from(alloc, src, start, depth)?;
@@ -275,7 +275,7 @@ pub fn parse_selector(alloc: Global, src: &str) -> Result<Selectors, Stop<Select
     ensures parts { IfOk result (λ s. Selects (chars src.now) (tree_of s)) }
     ensures source { IfOk result (λ s. written (tree_of s) ≡ chars src.now) }
     ensures stops { IfErr result (Stops (chars src.now)) }
-    ensures few { IfOk result (λ s. parts_in_list s ≤ length src.now) }
+    ensures shallow { IfOk result (λ s. depth_of_list s ≤ 100) }
 {
     match list_from(alloc, src, 0, 0) {
         Ok(row) => Ok(Selectors { list: row.list }),

@@ -89,5 +89,5 @@ pub fn print_selectors(alloc: Global, s: &Selectors) -> Result<Txt, AllocError>
 {
     let mut text = String::new(alloc);
     write_list(&mut text, &s.list)?;
-    Ok(Txt::from_string(text))
+    Txt::from_string(alloc, text)
 }

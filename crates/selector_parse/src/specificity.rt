@@ -1,13 +1,14 @@
 // How specific selectors are.
-ghost use Rattle.std.specs.Prelude.{◌≡◌, ◌+◌, ◌<◌, ◌≤◌, ◌^◌, map, length};
+ghost use Rattle.std.specs.Prelude.{◌≡◌, ◌+◌, ◌<◌, ◌≤◌, map};
 ghost use Rattle.std.specs.Str.{chars};
-ghost use Rattle.selector_parse.specs.Worth.{own as own_of, is_star as is_star_of, names_all as names_all_of, is_where as is_where_of, is_group as is_group_of, worth_of_part, worth_of_complex, sum_from, greatest_from, nothing, size, cut, total, parts_in_part, parts_in_complex};
+ghost use Rattle.selector_parse.specs.Wide.{weight};
+ghost use Rattle.selector_parse.specs.Worth.{own, is_star as is_star_of, names_all as names_all_of, is_group as is_group_of, plus, worth_of_part, worth_of_complex, sum_from, greatest_from, nothing, size, cut, deepest, depth_of_part, depth_of_complex};
 
 use crate::names::{is_logical_class, is_where};
 use crate::part::{Args, Complex, Part, PartKind, Specificity};
 use crate::reading::Reading;
 use crate::scan::scan;
-use crate::tally::{Counts, make_counts};
+use crate::tally::Counts;
 
 fn is_star(reading: Reading) -> bool
     ensures { result ≡ is_star_of reading }
@@ -23,19 +24,19 @@ fn names_all(text: &str) -> bool
     is_star(reading)
 }
 
-/// What a simple selector counts without arguments.
-fn own(kind: PartKind, text: &str) -> Counts
-    ensures value { result ≡ own_of kind (chars text.now) }
-    ensures small { size result ≤ 1 }
+/// What a simple selector counts without arguments goes on top.
+fn add_own(sum: &mut Counts, kind: PartKind, text: &str)
+    requires { size sum.old + 1 < weight 101 }
+    ensures { sum.new ≡ plus sum.old (own kind (chars text.now)) }
 {
     match kind {
-        PartKind::Id => make_counts(1, 0, 0),
-        PartKind::Class | PartKind::Attribute => make_counts(0, 1, 0),
-        PartKind::PseudoClass if is_where(text) => make_counts(0, 0, 0),
-        PartKind::PseudoClass => make_counts(0, 1, 0),
-        PartKind::Element if names_all(text) => make_counts(0, 0, 0),
-        PartKind::Element | PartKind::PseudoElement => make_counts(0, 0, 1),
-        _ => make_counts(0, 0, 0),
+        PartKind::Id => sum.a.increase(),
+        PartKind::Class | PartKind::Attribute => sum.b.increase(),
+        PartKind::PseudoClass if is_where(text) => {}
+        PartKind::PseudoClass => sum.b.increase(),
+        PartKind::Element if names_all(text) => {}
+        PartKind::Element | PartKind::PseudoElement => sum.c.increase(),
+        _ => {}
     }
 }
 
@@ -49,35 +50,37 @@ fn is_group(kind: PartKind, text: &str) -> bool
     }
 }
 
-/// What a part counts.
+/// What a part counts goes on top.
 #[cycle(count)]
-fn part_counts(part: &Part) -> Counts
-    requires { parts_in_part part.now < 2 ^ 64 }
-    ensures value { result ≡ worth_of_part part.now }
-    ensures small { size result ≤ parts_in_part part.now }
+fn add_part(sum: &mut Counts, part: &Part)
+    requires shallow { depth_of_part part.now ≤ 100 }
+    requires room { size sum.old + weight (depth_of_part part.now) < weight 101 }
+    ensures value { sum.new ≡ plus sum.old (worth_of_part part.now) }
+    ensures small { size (worth_of_part part.now) ≤ weight (depth_of_part part.now) }
 {
     let text = part.text.as_str();
     if !is_group(part.kind, text) {
-        return own(part.kind, text);
+        add_own(sum, part.kind, text);
+        return;
     }
     match &part.args {
-        Args::Absent => own(part.kind, text),
-        Args::Plain(_) => make_counts(0, 0, 0),
-        Args::List(_) if is_where(text) => make_counts(0, 0, 0),
-        Args::List(inner) => list_counts(&inner.list),
+        Args::Absent => add_own(sum, part.kind, text),
+        Args::Plain(_) => {}
+        Args::List(_) if is_where(text) => {}
+        Args::List(inner) => sum.add(&list_counts(&inner.list)),
     }
 }
 
 /// What parts count together.
 #[cycle(count)]
 fn parts_counts(parts: &[Part]) -> Counts
-    requires { total (map parts_in_part parts.now) < 2 ^ 64 }
+    requires shallow { deepest (map depth_of_part parts.now) ≤ 100 }
     ensures value { result ≡ sum_from nothing (map worth_of_part parts.now) }
-    ensures small { size result ≤ total (map parts_in_part parts.now) }
+    ensures small { size result ≤ weight (deepest (map depth_of_part parts.now) + 1) }
 {
-    let mut sum = make_counts(0, 0, 0);
+    let mut sum = Counts::nothing();
     for part in parts {
-        sum = sum.plus(part_counts(part));
+        add_part(&mut sum, part);
     }
     sum
 }
@@ -85,11 +88,11 @@ fn parts_counts(parts: &[Part]) -> Counts
 /// The greatest that a complex selector of a list counts.
 #[cycle(count)]
 fn list_counts(list: &[Complex]) -> Counts
-    requires { total (map parts_in_complex list.now) < 2 ^ 64 }
+    requires shallow { deepest (map depth_of_complex list.now) ≤ 100 }
     ensures value { result ≡ greatest_from nothing (map worth_of_complex list.now) }
-    ensures small { size result ≤ total (map parts_in_complex list.now) }
+    ensures small { size result ≤ weight (deepest (map depth_of_complex list.now) + 1) }
 {
-    let mut greatest = make_counts(0, 0, 0);
+    let mut greatest = Counts::nothing();
     for complex in list {
         greatest = greatest.greater(parts_counts(&complex.parts));
     }
@@ -98,9 +101,9 @@ fn list_counts(list: &[Complex]) -> Counts
 
 /// How specific a complex selector is, as Selectors Level 4 counts it: `:is`, `:not` and `:has` with arguments count the
 /// greatest specificity of their list, and `:where` and `&` nothing. The numbers are compared before they are cut to 65,535.
-/// Takes no memory.
+/// Takes no memory. At most 100 lists of arguments may stand inside one another, as they do in what `parse_selector` gives.
 pub fn specificity(c: &Complex) -> Specificity
-    requires { parts_in_complex c.now < 2 ^ 64 }
+    requires { depth_of_complex c.now ≤ 100 }
     ensures { result ≡ cut (worth_of_complex c.now) }
 {
     parts_counts(&c.parts).cut()

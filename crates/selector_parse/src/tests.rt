@@ -186,6 +186,8 @@ fn deep(rt: HostRuntime) -> Result<(), Fail> {
             Err(Stop::Memory(error)) => return Err(error.into()),
         }
     }
+    let counts = specific(rt.alloc(), src.as_str())?;
+    assert_eq!(rt; counts.as_str(), "0,0,1");
     let mut longer = String::new(rt.alloc());
     longer.push_str(":is(")?;
     for _depth in 0..99 {

@@ -97,5 +97,5 @@ pub fn mappings(alloc: Global, source_map: &SourceMap) -> Result<Txt, AllocError
         push_segment(&mut text, &last, segment)?;
         last = last.after(segment);
     }
-    Ok(Txt::from_string(text))
+    Txt::from_string(alloc, text)
 }

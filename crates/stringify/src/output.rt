@@ -96,14 +96,12 @@ impl Output {
         Ok(())
     }
 
-    pub fn finish(self) -> Printed
-        ensures text { result.text ≡ self.text }
-        ensures starts { result.starts.items ≡ self.starts }
+    pub fn finish(self, alloc: Global) -> Result<Printed, AllocError>
+        ensures text { IfOk result (λ printed. printed.text ≡ self.text) }
+        ensures starts { IfOk result (λ printed. printed.starts.items ≡ self.starts) }
     {
         let Output { text, starts } = self;
-        Printed {
-            text: Txt::from_string(text),
-            starts,
-        }
+        let text = Txt::from_string(alloc, text)?;
+        Ok(Printed { text, starts })
     }
 }

@@ -39,7 +39,8 @@ pub fn print(alloc: Global, work: &Work) -> Result<Printed, AllocError>
     work.facts();
     let mut out = Output::new(alloc);
     write_body(work, NodeId::new(0), &mut out)?;
-    Ok(out.finish())
+    let printed = out.finish(alloc)?;
+    Ok(printed)
 }
 
 /// The body of one node, in the tree or loose, and the starts of it and of all nodes below it. The root is not among
@@ -54,7 +55,10 @@ pub fn print_node(alloc: Global, work: &Work, n: NodeId) -> Result<Printed, Stop
     }
     let mut out = Output::new(alloc);
     match write_body(work, n, &mut out) {
-        Ok(()) => Ok(out.finish()),
+        Ok(()) => match out.finish(alloc) {
+            Ok(printed) => Ok(printed),
+            Err(error) => Err(Stop::Memory(error)),
+        },
         Err(error) => Err(Stop::Memory(error)),
     }
 }

@@ -1,6 +1,6 @@
 -- Values with shorter words.
 use Rattle.std.proofs.Common.{String, ◌≡◌, ℕ, List, [], ◌∷◌, ◌++◌, Bool, true, false, ◌&&◌, ◌||◌, length, Option, Some, None, refl, ap, sym, ◌∙◌, append-nil, append_assoc, nat_eq}
-use Rattle.std.specs.Prelude.{◌==◌, if◌then◌else◌, Result, Ok, Err, is_ok, OnOk}
+use Rattle.std.specs.Prelude.{◌==◌, if◌then◌else◌, Result, Ok, Err, is_ok, OnOk, IfOk}
 use Rattle.std.specs.declared.alloc.AllocError.{AllocError}
 use Rattle.std.specs.Str.{chars}
 use Rattle.std.specs.String.{string_bytes}
@@ -126,3 +126,8 @@ function-done p s n m k new b e f g h =
     let z = ending (out-ValuePart p).closed in
     h ∙ ap (λ x. x ++ z) (g ∙ ap (λ x. x ++ i) (f ∙ ap (λ x. x ++ 40 ∷ []) e)) ∙ append_assoc ((s ++ t) ++ 40 ∷ []) i z ∙ append_assoc (s ++ t) (40 ∷ []) (i ++ z) ∙ append_assoc s t (40 ∷ (i ++ z))
     ∙ ap (λ x. s ++ x) (sym (function-short p b))
+
+-- what one text has, where the answer is no other
+pub if_ok_same : (r : Result (List ℕ) AllocError) (x : List ℕ) (P : List ℕ → Type 0) → ((t : List ℕ) → t ≡ x → P t) → IfOk r (λ t. t ≡ x) → IfOk r P
+if_ok_same (Ok t) x P f e = f t e
+if_ok_same (Err m) x P f e = tt

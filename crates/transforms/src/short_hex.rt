@@ -80,7 +80,7 @@ fn short_text(alloc: Global, source: &str) -> Result<Txt, AllocError>
     let parts = parse_value(alloc, source)?;
     let mut text = String::new(alloc);
     write_parts(&mut text, &parts)?;
-    Ok(Txt::from_string(text))
+    Txt::from_string(alloc, text)
 }
 
 fn has_hash(text: &str) -> bool

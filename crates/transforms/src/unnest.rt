@@ -156,7 +156,7 @@ fn joined(alloc: Global, work: &Work, rule: NodeId, child: NodeId) -> Result<Txt
     let mut text = String::new(alloc);
     text.push_str(selector(work, rule))?;
     text.push_str(behind_first(selector(work, child)))?;
-    Ok(Txt::from_string(text))
+    Txt::from_string(alloc, text)
 }
 
 // One child goes out of the rule.

@@ -57,5 +57,5 @@ pub fn print_value(alloc: Global, parts: &[ValuePart]) -> Result<Txt, AllocError
 {
     let mut text = String::new(alloc);
     write_parts(&mut text, parts)?;
-    Ok(Txt::from_string(text))
+    Txt::from_string(alloc, text)
 }

@@ -3,7 +3,9 @@ pub mod Fitting
 pub mod Grouping
 pub mod Seating
 pub mod Sure
+pub mod Staying
 pub mod Turning
+pub mod Knowing
 pub mod Growing
 pub mod Closing
 pub mod Passing
@@ -13,6 +15,7 @@ pub mod Calling
 pub mod Hearing
 pub mod Returning
 pub mod Making
+pub mod Keeping
 pub mod Walking
 pub mod Picking
 pub mod Rooting

@@ -4,6 +4,7 @@
 mod call;
 mod fits;
 mod hooks;
+mod known;
 pub mod laws;
 mod pass;
 mod reads;

@@ -2,7 +2,8 @@
 ghost use Rattle.std.specs.Prelude.{◌≡◌, ◌∷◌, [], ◌<◌, length, true};
 ghost use Rattle.std.specs.Str.{chars};
 ghost use Rattle.css_tree.specs.Changes.{same_text};
-ghost use Rattle.node_rows.specs.Nodes.{holds, is_dirty};
+ghost use Rattle.node_rows.specs.Nodes.{holds, is_dirty, parent_of, children_of};
+ghost use Rattle.node_rows.specs.Sound.{is_number};
 ghost use Rattle.visitor_machine.specs.Hooks.{enter_event, exit_event, lower, key_of};
 ghost use Rattle.visitor_machine.specs.Machine.{kind_at, key_at};
 
@@ -35,6 +36,36 @@ pub fn is_in_tree(work: &Work, node: NodeId) -> bool
     match work.is_below_root(node) {
         Ok(is_below) => is_below,
         Err(_) => false,
+    }
+}
+
+/// The node's parent; none for the root, for the top of a loose tree, and for a number that was never given out.
+pub fn parent(work: &Work, node: NodeId) -> Option<NodeId>
+    ensures { result ≡ parent_of work.now.nodes node }
+{
+    match work.parent(node) {
+        Ok(parent) => parent,
+        Err(_) => None,
+    }
+}
+
+/// Whether the node is a child of that parent.
+pub fn is_child(work: &Work, node: NodeId, of: NodeId) -> bool
+    ensures { result ≡ is_number (parent_of work.now.nodes node) of }
+{
+    match parent(work, node) {
+        None => false,
+        Some(parent) => parent == of,
+    }
+}
+
+/// How many children the node has; 0 for a number that was never given out.
+pub fn child_count(work: &Work, node: NodeId) -> u32
+    ensures { result ≡ length (children_of work.now.nodes node) }
+{
+    match work.child_count(node) {
+        Ok(count) => count,
+        Err(_) => 0,
     }
 }
 

@@ -12,6 +12,7 @@ ghost use Rattle.visitor_walk.specs.Turns.{IsNext, Opened, NextDirty, Closes, Le
 
 use crate::fits::next_fitting;
 use crate::hooks::{RunHook, RunHooks};
+use crate::known::share;
 use crate::reads::{enter_event, exit_event, is_in_tree, key, kind};
 use css_text::stop::Stop;
 use node_store::cursors::Cursor;
@@ -153,8 +154,8 @@ fn enter(
     Ok(())
 }
 
-// Whether the visit's node is in the tree. That is asked, at the cost of the node's depth, only where edits were made
-// since it was last known.
+// Whether the visit's node is in the tree. The store is asked, at the cost of the node's depth, only where edits were made
+// since it was last known and it didn't stay known over them.
 fn is_there(work: &Work, visit: &Open, edits: u64) -> bool
     ensures value { IsSure work.now.nodes edits visit.now → result ≡ holds work.now.nodes 0 visit.now.node }
     ensures given { result ≡ true → visit.now.node < length work.now.nodes }
@@ -165,6 +166,45 @@ fn is_there(work: &Work, visit: &Open, edits: u64) -> bool
     } else {
         is_in_tree(work, visit.node)
     }
+}
+
+// A turn of a visit whose node is in the tree: a call is due, or a child is entered, or the visit is left.
+fn go_on(
+    work: &mut Work,
+    hooks: &RunHooks,
+    stack: &mut Vec<Open>,
+    mut visit: Open,
+) -> Result<Option<Due>, AllocError>
+    requires { visit.node < length work.old.nodes }
+    ensures walked { (hs : List PickedHook) (most : ℕ) (s : State) → IsGrouped hooks.now hs → IsPass hs s.stage → Shows work.old (visit ∷ reverse stack.old.items) s → s.edits ≡ visit.sure → holds work.old.nodes 0 visit.node ≡ true →
+        (w : Strolls hs most work.old (visit ∷ reverse stack.old.items) s work.new) × IfOk result (λ r. Turned hs work.old work.new (visit ∷ reverse stack.old.items) (reverse stack.new.items) s w.state r) }
+    ensures less { IfOk result (λ r. IsLess work.old work.new stack.old.items stack.new.items r) }
+    ensures grows { length work.old.log ≤ length work.new.log }
+    ensures calls { (shelf : List PluginSeen) → AllOnShelf shelf hooks.now → IfOk result (λ r. IfSome r (λ due. IsOnShelf shelf due)) }
+{
+    work.facts();
+    let kind = kind(work, visit.node);
+    let enters = hooks.at(enter_event(kind));
+    if let Some(next) = next_call(work, enters, visit.node, visit.enter) {
+        visit.enter = next.behind;
+        stack.push(visit)?;
+        return Ok(Some(next.due));
+    }
+    visit.enter = enters.len();
+    let children = visit.children.take();
+    visit.children = opened(work, visit.node, children)?;
+    if let Some(child) = next_dirty(work, &visit.children) {
+        enter(work, stack, visit, child)?;
+        return Ok(None);
+    }
+    let exits = hooks.at(exit_event(kind));
+    if let Some(next) = next_call(work, exits, visit.node, visit.exit) {
+        visit.exit = next.behind;
+        stack.push(visit)?;
+        return Ok(Some(next.due));
+    }
+    leave(work, visit)?;
+    Ok(None)
 }
 
 /// One turn of the innermost visit: it is left, or a child is entered, or a call is due. `edits` is how many edits were
@@ -188,53 +228,6 @@ pub fn take_turn(
         return Ok(None);
     }
     top.sure = edits;
-    let kind = kind(work, top.node);
-    let enters = hooks.at(enter_event(kind));
-    if let Some(next) = next_call(work, enters, top.node, top.enter) {
-        top.enter = next.behind;
-        stack.push(top)?;
-        return Ok(Some(next.due));
-    }
-    let Open {
-        node,
-        enter: _,
-        exit,
-        children,
-        sure,
-    } = top;
-    let enter_end = enters.len();
-    let children = opened(work, node, children)?;
-    if let Some(child) = next_dirty(work, &children) {
-        let visit = Open {
-            node,
-            enter: enter_end,
-            exit,
-            children,
-            sure,
-        };
-        enter(work, stack, visit, child)?;
-        return Ok(None);
-    }
-    let exits = hooks.at(exit_event(kind));
-    if let Some(next) = next_call(work, exits, node, exit) {
-        stack.push(Open {
-            node,
-            enter: enter_end,
-            exit: next.behind,
-            children,
-            sure,
-        })?;
-        return Ok(Some(next.due));
-    }
-    leave(
-        work,
-        Open {
-            node,
-            enter: enter_end,
-            exit,
-            children,
-            sure,
-        },
-    )?;
-    Ok(None)
+    share(work, stack, &top);
+    go_on(work, hooks, stack, top)
 }

@@ -7,6 +7,7 @@ ghost use Rattle.visitor_machine.specs.Hooks.{PickedHook};
 ghost use Rattle.visitor_machine.specs.Machine.{turn, done};
 ghost use Rattle.visitor_walk.specs.declared.turn.Open.{Open};
 ghost use Rattle.visitor_walk.specs.Ran.{IsReady, end_of, Made, Stands, PassesMade, AreLeft, EachMade};
+ghost use Rattle.visitor_walk.specs.Known.{CallEdits};
 ghost use Rattle.visitor_walk.specs.Turns.{IsPass, AllOnShelf, AreOnShelf};
 ghost use Rattle.plugin_api.specs.declared.visitor.Told.{Told};
 ghost use Rattle.plugin_api.specs.declared.visitor.Duty.{Duty};
@@ -15,6 +16,7 @@ ghost use Rattle.visitor_walk.specs.Walk.{Walks};
 
 use crate::call::call;
 use crate::hooks::{RunHook, RunHooks};
+use crate::known::{before_call, keep_known};
 use crate::pass::{close_all, run_passes};
 use crate::spent::{Limits, Spent};
 use crate::turn::{Due, due_at};
@@ -65,6 +67,7 @@ fn make_call(
     ensures calls { IfOk result (λ _. spent.new.calls ≤ limits.calls) }
     ensures edits { IfOk result (λ _. spent.new.edits ≤ length work.new.log) }
     ensures less { IfOk result (λ r. IfNone r (spent.old.calls < spent.new.calls)) }
+    ensures edited { IfOk result (λ r. IfNone r (CallEdits work.old work.new)) }
     ensures on_shelf { let seen = shelf_seen (λ b. (⟦<dyn Visitor as Visitor>⟧ b.vtable).told b.value) (λ b. (⟦<dyn Visitor as Visitor>⟧ b.vtable).said b.value) (λ b. (⟦<dyn Visitor as Visitor>⟧ b.vtable).duty b.value) in
         (i j : ℕ) → IsSome (hook_at (seen shelf.old.items) i j) → IsSome (hook_at (seen shelf.new.items) i j) }
 {
@@ -148,10 +151,13 @@ fn call_in_passes(
 {
     let mut stack = Vec::new(alloc);
     'call: while let Some(due) = run_passes(work, hooks, &mut stack, spent.edits)? {
+        work.facts();
+        let before = before_call(work, &due, spent.edits);
         if let Some(end) = make_call(alloc, work, shelf, limits, spent, due)? {
             close_all(work, &mut stack);
             return Ok(Some(end));
         }
+        keep_known(work, &mut stack, &before, spent.edits);
     }
     Ok(None)
 }

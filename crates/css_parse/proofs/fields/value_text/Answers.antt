@@ -1,11 +1,11 @@
-use Rattle.std.proofs.Common.{◌++◌, ap, ◌∙◌}
+use Rattle.std.proofs.Common.{◌≡◌, ◌++◌, [], length, ap, sym, ◌∙◌, subst, arith, IfOk}
 use Rattle.std.specs.Str.{chars}
-use Rattle.std.specs.String.{string_bytes}
-use Rattle.std.proofs.lemmas.Str.{chars-append, chars-nil, IsUtf8-string_bytes}
+use Rattle.std.proofs.lemmas.List.{nil_from_length}
 use Rattle.css_tree.specs.Pieces.{join}
+use Rattle.css_parse.proofs.Joins.{join-nil}
 use Rattle.css_parse.proofs.fields.value_text.Goals as goal
 
-pub returns : goal.returns
-returns c =
-    c.from_string.ensures ∙ (ap chars c.in_ok-push_str.ensures.bytes ∙ (chars-append (string_bytes c.push_pieces.new.text) c.args.word.now (IsUtf8-string_bytes c.push_pieces.new.text)
-    ∙ ap (λ z. z ++ chars c.args.word.now) (c.in_ok-push_pieces.ensures ∙ ap (λ z. z ++ join c.args.pieces.now) (ap chars c.new-text.ensures.bytes ∙ chars-nil))))
+pub returns-then-is_empty : goal.returns-then-is_empty
+returns-then-is_empty c =
+    let none : c.args.pieces.now ≡ [] = nil_from_length c.args.pieces.now (grind arith) in
+    subst (λ x. IfOk c.at.result (λ t. t ≡ x)) (ap (λ ps. ps ++ chars c.args.word.now) (sym (ap join none ∙ join-nil))) c.at.ensures

@@ -27,4 +27,4 @@ returns-in-Done-clause-row c =
 pub returns-in_default : goal.returns-in_default
 returns-in_default c =
     let h = scanned_by c.args.src.now c.as_bytes.result.now c.args.at (Blank One) c.scan-end.result.0 c.scan-end.result.1 c.as_bytes.ensures.value c.requires.utf8 c.requires.boundary c.scan-end.ensures.end c.scan-end.ensures.last in
-    record { row = tt; longer = tt; few = tt; halt = comment_halt c.args.src.now c.args.at c.args.depth c.scan-end.result.0 c.args.phase c.scan-end.result.1 h c.requires.inside c.requires.slash c.requires.within c.in_default.not-Done }
+    record { row = tt; longer = tt; flat = tt; halt = comment_halt c.args.src.now c.args.at c.args.depth c.scan-end.result.0 c.args.phase c.scan-end.result.1 h c.requires.inside c.requires.slash c.requires.within c.in_default.not-Done }

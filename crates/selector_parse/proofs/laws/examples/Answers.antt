@@ -2,6 +2,7 @@ use Rattle.std.proofs.Common.{refl, lit<}
 use Rattle.css_text.specs.Characters.{is_space, is_quote}
 use Rattle.selector_parse.specs.declared.phase.Phase.TheVariants.{Open, Inside, Commented, Trailing}
 use Rattle.selector_parse.specs.Reading.{step}
+use Rattle.selector_parse.specs.Wide.{value, weight}
 use Rattle.selector_parse.specs.Grammar.{is_legacy, is_logical}
 use Rattle.selector_parse.proofs.laws.examples.Goals as goal
 
@@ -31,3 +32,7 @@ returns-clause-simple c = (
 pub returns-clause-signs : goal.returns-clause-signs
 unfolding step is_space
 returns-clause-signs c = (refl, refl)
+
+pub returns-clause-words : goal.returns-clause-words
+unfolding value weight
+returns-clause-words c = refl

@@ -16,13 +16,13 @@ use Rattle.selector_parse.specs.declared.part.Args.TheViews.{roll-Complex}
 use Rattle.selector_parse.specs.Row.{IsRow, IsClosedText, IsListText, IsArguments, IsEnded, complex_parts, list_parts, stops, reads_blanks, is_blank_list}
 use Rattle.selector_parse.proofs.Scanned.{ahead_of, scanned_by}
 use Rattle.selector_parse.proofs.Rows.{stops_text, empty_row, row_append, row_boundary, no_arguments, simple_row, if_ok_map}
-use Rattle.selector_parse.proofs.Trees.{total-push, total-nil, complex_few, args_absent, args_list, parts-push, tree_roll, complex_roll}
+use Rattle.selector_parse.proofs.Trees.{deepest-push, deepest-nil, complex_deep, args_absent, args_list, parts-push, tree_roll, complex_roll}
 use Rattle.selector_parse.proofs.Arguments.{text_arguments, list_arguments, blanks_listed, nested_list}
 use Rattle.selector_parse.proofs.ArgumentBytes.{name_slice, list_test, args_test, opened}
 use Rattle.selector_parse.proofs.KindBytes.{kind-bytes}
 use Rattle.selector_parse.proofs.Lists.{ended_append, comma_boundary, list-push_ended, blank_test, simple_longer}
 use Rattle.selector_parse.proofs.parse.+parse.Goals.{complex_from-then-not-may_end, complex_from-else-not-may_end+then-not-stops}
-use Rattle.selector_parse.specs.Worth.{total, parts_in_part, parts_in_complex}
+use Rattle.selector_parse.specs.Worth.{deepest, depth_of_part, depth_of_complex}
 use Rattle.selector_parse.specs.Row.{Halts, NameHalts, ListHalts, TextHalts}
 use Rattle.selector_parse.proofs.ArgumentHalts.{if_err_map, depth_halt, blank_halts, list_halts_name, text_halts_name, inner_halts, open_list_halt}
 use Rattle.selector_parse.proofs.Halts.{row_halts, comma_halts, simple_halt, name_halts, trailing_halt, stuck_by, no_begins}
@@ -84,7 +84,7 @@ arguments_from-returns-clause-row t c =
     (subst (λ d. IsClosedText bs (c.args.end + 1) (Text (Parentheses 0 (most_depth - d))) (args_of a.args) a.end) (add-one c.args.depth) k) o.args lists) c.plain_arguments.ensures.row
 
 pub complex_from-parts-init : goal.complex_from-parts-init
-complex_from-parts-init t c = (subst (λ xs. IsRow c.args.src.now c.args.start c.args.depth Fresh (complex_parts xs) Fresh c.args.start) (sym c.new-parts.ensures.items) (empty_row c.args.src.now c.args.start c.args.depth Fresh c.requires.1.1.0 c.requires.1.1.1.1.0), let e = total-nil parts_in_part c.new-parts.result.items c.new-parts.ensures.items in omega arith)
+complex_from-parts-init t c = (subst (λ xs. IsRow c.args.src.now c.args.start c.args.depth Fresh (complex_parts xs) Fresh c.args.start) (sym c.new-parts.ensures.items) (empty_row c.args.src.now c.args.start c.args.depth Fresh c.requires.1.1.0 c.requires.1.1.1.1.0), let e = deepest-nil depth_of_part c.new-parts.result.items c.new-parts.ensures.items in omega arith)
 
 pub complex_from-part_from-requires : goal.complex_from-part_from-requires
 complex_from-part_from-requires t c =
@@ -100,10 +100,10 @@ complex_from-parts-preserved t c =
     let bs = c.args.src.now in
     let ps = c.parts.parts.items in
     let x = c.in_ok-next.next.part in
-    let e = total-push parts_in_part ps x in
-    let g = ap (λ xs. total (map parts_in_part xs)) c.in_ok-push.ensures in
+    let e = deepest-push depth_of_part ps x in
+    let g = ap (λ xs. deepest (map depth_of_part xs)) c.in_ok-push.ensures in
     let o = c.parts.invariant.1 in
-    let w = c.in_ok-next.ensures.few in (
+    let w = c.in_ok-next.ensures.shallow in (
       subst (λ y. IsRow bs c.args.start c.args.depth Fresh y c.in_ok-next.next.phase c.in_ok-next.next.end) (sym (parts-push ps x) ∙ ap (λ xs. complex_parts xs) (sym c.in_ok-push.ensures))
           (row_append bs c.args.start c.parts.end c.in_ok-next.next.end c.args.depth Fresh c.parts.phase c.in_ok-next.next.phase (complex_parts ps) (part_before x none) c.parts.invariant.0 c.in_ok-next.ensures.row),
       omega arith,
@@ -140,11 +140,11 @@ list_from-list-preserved t c =
     let byte = ap (λ s. get_or s c.list.end 0) (sym c.as_bytes-bytes.ensures.value) ∙ sym c.byte_at.ensures ∙ c.list-test.true in
     let r = ended_append bs c.args.start c.list.end c.in_ok-next.next.end c.args.depth (list_parts cs) (complex_parts c.in_ok-next.next.parts.items) c.list.invariant.0 byte c.in_ok-next.ensures.row in
     let e = list-push_ended bs c.args.start c.args.depth c.list.end cs (roll-Complex (record { parts = c.in_ok-next.next.parts })) c.list.invariant.0 in
-    let k = total-push parts_in_complex cs (roll-Complex (record { parts = c.in_ok-next.next.parts })) in
-    let v = ap (λ xs. total (map parts_in_complex xs)) c.in_ok-push-2.ensures in
-    let m = complex_few c.in_ok-next.next.parts in
+    let k = deepest-push depth_of_complex cs (roll-Complex (record { parts = c.in_ok-next.next.parts })) in
+    let v = ap (λ xs. deepest (map depth_of_complex xs)) c.in_ok-push-2.ensures in
+    let m = complex_deep c.in_ok-next.next.parts in
     let o = c.list.invariant.2 in
-    let w = c.in_ok-next.ensures.few in
+    let w = c.in_ok-next.ensures.shallow in
     (subst (λ x. IsEnded bs c.args.start c.args.depth x c.in_ok-next.next.end) (sym (ap (λ xs. list_parts xs) c.in_ok-push-2.ensures ∙ e ∙ ap (λ y. followed (list_parts cs) (comma y)) (complex_roll c.in_ok-next.next.parts))) r, c.in_ok-next.ensures.last, omega arith)
 
 pub simple_from-arguments_from-requires : goal.simple_from-arguments_from-requires
@@ -220,7 +220,7 @@ gap_or_simple-returns-in_default t c =
     let bs = c.args.src.now in
     let h = scanned_by bs c.as_bytes.result.now c.args.at (Blank Comments) c.scan-end.result.0 c.scan-end.result.1 c.as_bytes.ensures.value c.requires.1.1.0 c.requires.1.1.1.1.0 c.scan-end.ensures.end c.scan-end.ensures.last in
     let l : c.args.at < c.scan-end.result.0 = further c.args.at c.scan-end.result.0 c.scan-end.ensures.within.0 c.if-end-at.false in
-    record { row = tt; longer = tt; few = tt; halt = gap_halt bs c.args.at c.args.depth c.scan-end.result.0 c.args.phase c.scan-end.result.1 h c.requires.1.1.1.1.1.1.0 (some_inner bs c.args.at c.scan-end.result.0 (Blank Comments) c.scan-end.result.1 h l) c.in_default.not-Blank }
+    record { row = tt; longer = tt; shallow = tt; halt = gap_halt bs c.args.at c.args.depth c.scan-end.result.0 c.args.phase c.scan-end.result.1 h c.requires.1.1.1.1.1.1.0 (some_inner bs c.args.at c.scan-end.result.0 (Blank Comments) c.scan-end.result.1 h l) c.in_default.not-Blank }
 
 pub list_arguments-returns-then-is_blank_list-clause-halt : goal.list_arguments-returns-then-is_blank_list-clause-halt
 list_arguments-returns-then-is_blank_list-clause-halt t c =
@@ -276,11 +276,3 @@ simple_from-returns-in_err-arguments-clause-halt t c =
     if_err_map c.arguments_from.result _ _ (λ f k. name_halts bs c.args.at c.args.depth c.scan-end.result.0 c.args.phase c.in-Some.start c.scan-end.result.1 h (sym c.starts.ensures ∙ c.in-Some.is) (sym c.is_final.ensures ∙ c.if-not-is_final.false) f
     (subst (λ n. NameHalts bs c.scan-end.result.0 c.args.depth n f) name k)) c.arguments_from.ensures.halt in
     search rules
-
-pub simple_from-returns-clause-few : goal.simple_from-returns-clause-few
-simple_from-returns-clause-few t c =
-    let h = scanned_by c.args.src.now c.as_bytes-bytes.result.now c.args.at c.in-Some.start c.scan-end.result.0 c.scan-end.result.1 c.as_bytes-bytes.ensures.value c.requires.1.1.0 c.requires.1.1.1.1.0 c.scan-end.ensures.end c.scan-end.ensures.last in
-    let l = simple_longer c.args.src.now c.args.at c.scan-end.result.0 c.args.phase c.in-Some.start c.scan-end.result.1 h (sym c.starts.ensures ∙ c.in-Some.is) (sym c.is_final.ensures ∙ c.if-not-is_final.false) in
-    let e = c.in_ok-part.ensures.few in
-    let f = c.in_ok-arguments.ensures.few in
-    omega arith

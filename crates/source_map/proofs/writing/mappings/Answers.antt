@@ -1,4 +1,4 @@
-use Rattle.std.proofs.Common.{◌∙◌, ap}
+use Rattle.std.proofs.Common.{◌≡◌, ◌∙◌, ap, subst, IfOk}
 use Rattle.std.specs.Str.{chars}
 use Rattle.source_map.specs.Written.{mappings_text}
 use Rattle.source_map.proofs.Lines.{written_step, written_all}
@@ -10,4 +10,4 @@ loop-segment-preserved c = written_step _ _ _ _ _ _ _ _ _ c.requires c.deref-seg
     c.in_ok-push_separator.ensures c.in_ok-push_segment.ensures c.after-last.ensures
 
 pub returns : goal.returns
-returns c = c.from_string.ensures ∙ ap chars (written_all _ _ _ _ c.loop-segment.invariant c.loop-segment-test.false) ∙ chars-mappings_text c.deref-segment-items.result.now ∙ ap mappings_text c.deref-segment-items.ensures.value
+returns c = subst (λ x. IfOk c.from_string.result (λ t. t ≡ x)) (ap chars (written_all _ _ _ _ c.loop-segment.invariant c.loop-segment-test.false) ∙ chars-mappings_text c.deref-segment-items.result.now ∙ ap mappings_text c.deref-segment-items.ensures.value) c.from_string.ensures

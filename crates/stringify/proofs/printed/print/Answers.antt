@@ -12,14 +12,14 @@ returns-clause-text c =
     let f = c.args.work.now in
     let e = c.in_ok-write_body.ensures ∙ (ap (λ n. with_body f.nodes n c.new-out.result) c.new.ensures ∙ ap (with_body f.nodes 0) c.new-out.ensures) in
     let s = body-shown f.nodes 0 c.write_body.new.out e in
-    c.finish.ensures.text ∙ (s.text ∙ ap (λ d. body d (tree_at f.nodes 0)) (root_depth f c.facts.ensures))
+    c.in_ok-printed.ensures.text ∙ (s.text ∙ ap (λ d. body d (tree_at f.nodes 0)) (root_depth f c.facts.ensures))
 
 pub returns-clause-nodes : goal.returns-clause-nodes
 returns-clause-nodes c =
     let f = c.args.work.now in
     let e = c.in_ok-write_body.ensures ∙ (ap (λ n. with_body f.nodes n c.new-out.result) c.new.ensures ∙ ap (with_body f.nodes 0) c.new-out.ensures) in
     let s = body-shown f.nodes 0 c.write_body.new.out e in
-    ap nodes_in c.finish.ensures.starts ∙ s.nodes
+    ap nodes_in c.in_ok-printed.ensures.starts ∙ s.nodes
 
 pub returns-clause-starts : goal.returns-clause-starts
 unfolding starts
@@ -27,4 +27,4 @@ returns-clause-starts c =
     let f = c.args.work.now in
     let e = c.in_ok-write_body.ensures ∙ (ap (λ n. with_body f.nodes n c.new-out.result) c.new.ensures ∙ ap (with_body f.nodes 0) c.new-out.ensures) in
     let s = body-shown f.nodes 0 c.write_body.new.out e in
-    ap ats_in c.finish.ensures.starts ∙ (s.ats ∙ ap (λ d. starts_below d (tree_at f.nodes 0)) (root_depth f c.facts.ensures))
+    ap ats_in c.in_ok-printed.ensures.starts ∙ (s.ats ∙ ap (λ d. starts_below d (tree_at f.nodes 0)) (root_depth f c.facts.ensures))

@@ -1,4 +1,4 @@
-use Rattle.std.proofs.Common.{◌++◌, drop, ap, sym, ◌∙◌}
+use Rattle.std.proofs.Common.{◌≡◌, ◌++◌, IfOk, drop, ap, sym, ◌∙◌, subst}
 use Rattle.std.specs.Str.{chars}
 use Rattle.std.specs.String.{string_bytes}
 use Rattle.std.proofs.lemmas.Str.{chars-nil}
@@ -14,7 +14,6 @@ returns c =
     let ns = c.args.work.now.nodes in
     let sel = selector_of (text_of ns c.args.rule) in
     let own = own_selector (text_of ns c.args.child) in
-    c.from_string.ensures
-    ∙ (push_chars c.push_str.new.self own (string_bytes c.push_str-2.new.self) c.behind_first.result.now (c.behind_first.ensures ∙ (ap (drop 1) c.selector-2.ensures ∙ sym (own-is (text_of ns c.args.child)))) c.in_ok-push_str-2.ensures.bytes
+    subst (λ x. IfOk c.from_string.result (λ t. t ≡ x)) (push_chars c.push_str.new.self own (string_bytes c.push_str-2.new.self) c.behind_first.result.now (c.behind_first.ensures ∙ (ap (drop 1) c.selector-2.ensures ∙ sym (own-is (text_of ns c.args.child)))) c.in_ok-push_str-2.ensures.bytes
     ∙ ap (λ x. x ++ own) (push_chars c.new-text.result sel (string_bytes c.push_str.new.self) c.selector.result.now c.selector.ensures c.in_ok-push_str.ensures.bytes
-    ∙ ap (λ x. x ++ sel) (ap chars c.new-text.ensures.bytes ∙ chars-nil)))
+    ∙ ap (λ x. x ++ sel) (ap chars c.new-text.ensures.bytes ∙ chars-nil))) c.from_string.ensures

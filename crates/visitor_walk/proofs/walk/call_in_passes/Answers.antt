@@ -1,5 +1,8 @@
-use Rattle.std.proofs.Common.{ap, length, reverse, refl, arith}
+use Rattle.std.proofs.Common.{ap, length, reverse, refl, arith, subst}
+use Rattle.visitor_walk.specs.Known.{CallEdits}
+use Rattle.visitor_walk.specs.Turns.{AllSure}
 use Rattle.visitor_walk.proofs.Closing as Closing
+use Rattle.visitor_walk.proofs.Keeping as Keeping
 use Rattle.visitor_walk.proofs.Walking as Walking
 use Rattle.visitor_walk.proofs.walk.call_in_passes.Goals as goal
 
@@ -43,16 +46,26 @@ returns-in-Some-2-clause-made g c = λ hs begin old gr s p.
 pub returns-in-Some-2-clause-edits : goal.returns-in-Some-2-clause-edits
 returns-in-Some-2-clause-edits g c = let a = c.in_ok-end.ensures.edits in let b = ap length c.close_all.ensures.same.log in omega arith
 
+pub keep_known-requires : goal.keep_known-requires
+keep_known-requires g c =
+    let ce : CallEdits c.run_passes.new.work c.make_call.new.work = rw c.in_default-2.is at c.in_ok-end.ensures.edited in
+    rw c.before_call-before.ensures (Keeping.longer ce)
+
 pub call-preserved : goal.call-preserved
 call-preserved g c = record {
   calls = c.in_ok-end.ensures.calls;
   edits = c.in_ok-end.ensures.edits;
   on_shelf = Walking.still_on_shelf _ _ c.args.hooks.now c.in_ok-end.ensures.on_shelf c.call.invariant.on_shelf;
   made = λ hs begin old gr s p.
+      let f = c.run_passes.new.work in
+      let os = reverse c.run_passes.new.stack.items in
       let t = c.call.invariant.made hs begin old gr s p in
       let v = rw c.in-Some.is at (c.in_ok-due.ensures.walked hs c.args.limits.edits t.0.ran.state gr t.1 t.0.shows t.0.edits) in
-      let m = rw c.in_default-2.is at (c.in_ok-end.ensures.made hs begin old (reverse c.run_passes.new.stack.items) (Walking.ready t.0 v.0 (reverse c.run_passes.new.stack.items) c.in-Some.due v.1.0 v.1.1.0)) in
-      (m.0, Walking.same_pass hs _ _ m.1 v.1.1.1);
+      let r = Walking.ready t.0 v.0 os c.in-Some.due v.1.0 v.1.1.0 in
+      let m = rw c.in_default-2.is at (c.in_ok-end.ensures.made hs begin old os r) in
+      let ce : CallEdits f c.make_call.new.work = rw c.in_default-2.is at c.in_ok-end.ensures.edited in
+      let sure = subst (λ k. AllSure f.nodes k os) r.edits r.is.sure in
+      Keeping.kept_on os (reverse c.keep_known.new.stack.items) c.before_call-before.result c.in-Some.due.moment.node c.call.spent.edits c.before_call-before.ensures c.keep_known.ensures c.facts.ensures.sound c.facts.ensures.some ce sure m.0 (Walking.same_pass hs _ _ m.1 v.1.1.1);
 }
 
 pub returns-clause-made : goal.returns-clause-made

@@ -1,4 +1,5 @@
 use Rattle.std.proofs.Common.{◌∙◌, ap, refl, length, ◌+◌, ◌-◌}
+use Rattle.visitor_walk.proofs.Keeping as Keeping
 use Rattle.visitor_walk.proofs.Making as Making
 use Rattle.visitor_walk.proofs.walk.make_call.Goals as goal
 
@@ -18,3 +19,6 @@ pub returns-clause-made : goal.returns-clause-made
 returns-clause-made g c = λ hs begin old os r.
     rw c.end_after.ensures (Making.came c.args.limits r c.call.new.work _ (record { calls = c.args.spent.now.calls + 1; edits = c.args.spent.now.edits + (length c.log.result.now - length c.log-before.result.now - 2) }) c.requires.calls c.if-spent-limits.false refl
     (ap (λ k. c.args.spent.now.edits + (length c.log.result.now - k - 2)) (ap length c.log-before.ensures) ∙ ap (λ k. c.args.spent.now.edits + (k - length c.args.work.now.log - 2)) (ap length c.log.ensures)) c.in_ok-fault.fault c.in_ok-fault.ensures)
+
+pub returns-clause-edited : goal.returns-clause-edited
+returns-clause-edited g c = Keeping.where_none _ c.end_after.result (Keeping.edits_of c.in_ok-fault.ensures)
