@@ -11,7 +11,7 @@ use Rattle.css_job.specs.Words.{Command, Options, Transform, Lint}
 use Rattle.css_job.specs.Faults.{name_of, status_of}
 use Rattle.css_job.specs.Reading.{IsReadingOf, HasNoTree}
 use Rattle.css_job.specs.Warnings.{Warning, warnings}
-use Rattle.css_job.specs.Report.{is_error, report}
+use Rattle.css_job.specs.Report.{is_error}
 use Rattle.css_job.specs.Plan.{limit, lint_status}
 use Rattle.css_job.specs.Answer.{Object, input, write_to, Answer, is_input}
 use Rattle.css_job.specs.Outside.{Moment, Licensed, Took, Asked, names_of, answer_to, Ends, Heard, RanOut, Runs}

@@ -1,5 +1,5 @@
 -- What the commands make of their parts.
-use Rattle.std.proofs.Common.{◌≡◌, ℕ, ◌<◌, ◌≤◌, ◌^◌, List, [], ◌∷◌, length, Bool, true, false, cond, Some, None, Ok, Err, Result, refl, sym, ap, subst, ◌∙◌, arith, inl, map}
+use Rattle.std.proofs.Common.{◌≡◌, ℕ, ◌<◌, ◌≤◌, ◌^◌, List, [], ◌∷◌, length, Bool, true, false, cond, Some, None, Ok, Err, Result, refl, sym, ap, subst, ◌∙◌, arith, inl}
 use Rattle.std.specs.Prelude.{Option, IsErr, IfOk, IfErr, nat_lt, encode_utf8_all}
 use Rattle.std.specs.Str.{chars, IsUtf8, is_utf8, IsValidUpTo}
 use Rattle.std.specs.Str.Lossy.{utf8_valid_len}
@@ -36,11 +36,10 @@ use Rattle.css_job.specs.Reading.{Reading}
 use Rattle.css_job.specs.Warnings.{Warning}
 use Rattle.css_job.specs.Report.{report}
 use Rattle.css_job.specs.CommandSeen.{shelf_names, command_seen}
-use Rattle.css_job.specs.Plan.{Plan, Reached, Turn, stopped, limit, lint_status, reported, text_plan, input_plan, turn_of, text_turn}
-use Rattle.css_job.specs.Outside.{Heard, names_of}
-use Rattle.css_job.specs.Stages.{Stage, plan_seen, stage_seen, writing, Kept, CutOff, command_turn, IsTextPlan, IsInputPlan, Planned, PlansInput}
+use Rattle.css_job.specs.Plan.{Plan, Reached, Turn, stopped, limit, lint_status, reported, text_plan, input_plan, turn_of}
+use Rattle.css_job.specs.Outside.{names_of}
+use Rattle.css_job.specs.Stages.{Stage, stage_seen, writing, Kept, CutOff, command_turn, IsTextPlan, Planned, PlansInput}
 use Rattle.css_job.specs.declared.fault.Fault.TheVariants as F
-use Rattle.css_job.specs.declared.plan.Plan as P
 use Rattle.css_job.specs.declared.prepared.Prepared as S
 use Rattle.css_job.specs.declared.target.Target.TheVariants.{StdErr}
 use Rattle.css_job.specs.declared.words.Command as C
@@ -60,8 +59,8 @@ abbrev pub nothing : Reached
 nothing = record { log = []; end = W.Done; nodes = [] }
 
 -- the names of a shelf
-pub names_seen : {X : Type 0} {F : X → Type 0} (told : DynBox X Global F → Option (List Told)) (said : DynBox X Global F → List (List ℕ)) (duty : DynBox X Global F → Option Duty) (ps : List (Plugin X F)) → names_of (shelf_seen told said duty ps) ≡ shelf_names ps
-names_seen told said duty ps = map-map (λ p. p.name) (plugin_seen told said duty) ps
+pub names_seen : {X : Type 0} {F : X → Type 0} (told : DynBox X Global F → Option (List Told)) (said : DynBox X Global F → List (List ℕ)) (duty : DynBox X Global F → Option Duty) (left : DynBox X Global F → ℕ) (ps : List (Plugin X F)) → names_of (shelf_seen told said duty left ps) ≡ shelf_names ps
+names_seen told said duty left ps = map-map (λ p. p.name) (plugin_seen told said duty left) ps
 
 abbrev report_plan : ℕ → List ℕ → Plan
 report_plan status bytes = record { fault = None; caller = []; status = status; writes = record { to = StdErr; bytes = bytes } ∷ [] }

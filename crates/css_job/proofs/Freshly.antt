@@ -1,10 +1,9 @@
 -- A fresh forest: its log is empty, its nodes are as many as the tree's, and each of them is dirty.
-use Rattle.std.proofs.Common.{◌≡◌, ℕ, ◌<◌, List, [], length, true, refl, ap, sym, ◌∙◌, arith}
+use Rattle.std.proofs.Common.{◌≡◌, ◌<◌, [], length, ap, sym, ◌∙◌, arith}
 use Rattle.std.proofs.lemmas.List.{length-map}
-use Rattle.css_tree.specs.Tree.{Tree}
 use Rattle.css_tree.specs.Numbered.{numbered}
-use Rattle.node_rows.specs.Nodes.{Node, is_dirty}
-use Rattle.node_rows.specs.NodeList.{nodes_of, entry_at}
+use Rattle.node_rows.specs.Nodes.{is_dirty}
+use Rattle.node_rows.specs.NodeList.{nodes_of}
 use Rattle.node_rows.proofs.Built.{nodes_of-at, nodes_of-length}
 use Rattle.node_store.specs.Forest.{Forest}
 use Rattle.node_store.specs.Fresh.{IsFresh, numbered_of}

@@ -1,6 +1,6 @@
 -- Plans as the code makes them, and what it does with a text that can't be read.
-use Rattle.std.proofs.Common.{◌≡◌, ℕ, List, [], ◌∷◌, ◌++◌, Some, None, Ok, Err, refl, sym, ap, subst, ◌∙◌, map}
-use Rattle.std.specs.Prelude.{Option, IfOk, encode_utf8_all}
+use Rattle.std.proofs.Common.{◌≡◌, ℕ, List, [], ◌∷◌, ◌++◌, Some, None, Ok, Err, sym, ap, subst, ◌∙◌, map}
+use Rattle.std.specs.Prelude.{Option, IfOk}
 use Rattle.css_tree.specs.declared.fault.SyntaxFault.{SyntaxFault}
 use Rattle.css_job.specs.Faults.{input_name, status_of}
 use Rattle.css_job.specs.Warnings.{syntax_warning}

@@ -63,6 +63,11 @@ not_taken asked left n p plan e i k = record {
 pub none_read : (asked : Asked) (left : Option (List ℕ)) (n : ℕ) → Unprepared asked asked.shelf left left n n
 none_read asked left n = record { bytes = known left []; reads = inl refl; fed = none_fed asked left; visits = cut_none asked.shelf asked.command (chars (known left [])) }
 
+-- want of memory for the plan of a wrong use, before anything is read
+pub failed_unasked : (asked : Asked) (left : Option (List ℕ)) (n : ℕ) (q : Stages) → IsErr q → Prepares asked asked.shelf left left n n q
+failed_unasked asked left n (Ok p) h = absurd (false≢true h)
+failed_unasked asked left n (Err e) h = none_read asked left n
+
 told_whole : (a b : Option (List ℕ)) (bytes : List ℕ) → Consumes a b bytes → IsAtEnd b → IfSome a (λ xs. bytes ≡ xs)
 told_whole a b bytes c e = Consumes-whole a b bytes (λ xs. bytes ≡ xs) c e refl
 

@@ -1,6 +1,5 @@
 -- What `transform` makes of a walk.
-use Rattle.std.proofs.Common.{◌≡◌, ℕ, List, [], ◌++◌, length, map, Some, None, Ok, Err, Result, refl, sym, ap, subst, ◌∙◌, inr}
-use Rattle.std.specs.Prelude.{Option}
+use Rattle.std.proofs.Common.{◌≡◌, ℕ, List, [], ◌++◌, length, Some, Ok, Err, Result, refl, sym, ap, subst, ◌∙◌, inr}
 use Rattle.std.specs.declared.vec.Vec.{Vec}
 use Rattle.std.specs.declared.alloc.Global.{Global}
 use Rattle.std.specs.declared.alloc.AllocError.{AllocError}
@@ -8,7 +7,6 @@ use Rattle.node_store.specs.declared.item.Item.{Item}
 use Rattle.node_store.specs.Forest.{Forest, IsForest}
 use Rattle.node_store.specs.Fresh.{IsFresh}
 use Rattle.plugin_api.specs.Shelf.{PluginSeen}
-use Rattle.visitor_machine.specs.Hooks.{PickedHook}
 use Rattle.visitor_machine.specs.Settled.{SettlesAt}
 use Rattle.visitor_walk.specs.declared.walk_end.WalkEnd.{WalkEnd}
 use Rattle.visitor_walk.specs.declared.walk_end.WalkEnd.TheVariants.{Done}

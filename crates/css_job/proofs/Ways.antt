@@ -15,7 +15,7 @@ use Rattle.visitor_walk.specs.declared.walk_end.WalkEnd.{WalkEnd}
 use Rattle.visitor_walk.specs.declared.walk_end.WalkEnd.TheVariants as W
 use Rattle.css_job.specs.Words.{Options, Command, Transform, Lint}
 use Rattle.css_job.specs.Faults.{input_name, name_of, status_of}
-use Rattle.css_job.specs.Trace.{trace, caller}
+use Rattle.css_job.specs.Trace.{caller}
 use Rattle.css_job.specs.Reading.{Reading}
 use Rattle.css_job.specs.Warnings.{warnings}
 use Rattle.css_job.specs.Report.{report}

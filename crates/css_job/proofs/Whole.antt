@@ -1,5 +1,5 @@
 -- Both stages in a row.
-use Rattle.std.proofs.Common.{◌≡◌, ℕ, List, [], Bool, true, false, Some, None, Ok, refl, sym, ap, subst, arith, inl}
+use Rattle.std.proofs.Common.{◌≡◌, ℕ, List, Bool, true, false, Some, None, Ok, refl, sym, ap, subst, arith, inl}
 use Rattle.std.specs.Prelude.{Option, is_some}
 use Rattle.std.specs.Str.{chars}
 use Rattle.std.specs.declared.vec.Vec.{Vec}
@@ -13,7 +13,7 @@ use Rattle.css_job.specs.Faults.{input_name}
 use Rattle.css_job.specs.Reading.{Reading, IsReadingOf}
 use Rattle.css_job.specs.Plan.{Plan, Reached, plan_of, turn_of, stopped}
 use Rattle.css_job.specs.Answer.{Object, input, write_to, answer, finish, is_input}
-use Rattle.css_job.specs.Outside.{Asked, Moment, Licensed, Took, TookFront, Fed, IsRead, Heard, Ends, RanOut, RanOutWriting, Runs, answer_to, turn_in, names_of}
+use Rattle.css_job.specs.Outside.{Asked, Moment, Licensed, Took, TookFront, Fed, IsRead, Heard, Ends, RanOut, RanOutWriting, Runs, answer_to, names_of}
 use Rattle.css_job.specs.Stages.{Stage, plan_seen, stage_seen, Kept, Sinks, IsPrepared, Carried, Stranded, Blames}
 use Rattle.css_job.specs.declared.carry_out.Settled.{Settled}
 use Rattle.css_job.specs.declared.fault.Fault.TheVariants.{ReadFault}

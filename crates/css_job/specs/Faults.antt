@@ -1,5 +1,5 @@
 -- The names of the standard streams, and the status and the line of each fault.
-use Rattle.std.specs.Prelude.{ℕ, List, [], ◌∷◌, ◌++◌, codes, decimal, encode_utf8_all}
+use Rattle.std.specs.Prelude.{ℕ, List, ◌++◌, codes, decimal, encode_utf8_all}
 use Rattle.css_text.specs.declared.stop.TextFault.{TextFault}
 use Rattle.css_text.specs.declared.stop.TextFault.TheVariants as T
 use Rattle.css_tree.specs.declared.fault.SyntaxKind.{SyntaxKind}

@@ -8,9 +8,9 @@ use Rattle.css_job.specs.Words.{Options, Transform}
 use Rattle.css_job.specs.Outside.{Moment, Asked, asked, Ends}
 use Rattle.css_job.specs.declared.run.Ended.{Ended}
 
--- a hook without what its visitor told and said: its event, filter and duty stay
+-- a hook without what its visitor told, said and left open: its event, filter and duty stay
 abbrev pub untold : HookSeen → HookSeen
-untold h = record { event = h.event; filter = h.filter; told = None; said = []; duty = h.duty }
+untold h = record { event = h.event; filter = h.filter; told = None; said = []; duty = h.duty; left = 0 }
 
 abbrev pub untold_plugin : PluginSeen → PluginSeen
 untold_plugin p = record { name = p.name; hooks = map untold p.hooks }

@@ -7,7 +7,7 @@ use Rattle.css_job.specs.OneOutcome.{SameShelf, AllOwe}
 
 -- one plugin, whose one hook may do anything
 abbrev pub free : List PluginSeen
-free = record { name = codes "drop"; hooks = record { event = E.Comment; filter = None; told = None; said = []; duty = None } ∷ [] } ∷ []
+free = record { name = codes "drop"; hooks = record { event = E.Comment; filter = None; told = None; said = []; duty = None; left = 0 } ∷ [] } ∷ []
 
 -- what visitors told and said doesn't count
 abbrev pub ToldAlone : Type 0

@@ -11,7 +11,7 @@ use Rattle.node_store.specs.declared.item.Item.{Item}
 use Rattle.node_store.specs.Forest.{Forest}
 use Rattle.plugin_api.specs.Shelf.{PluginSeen}
 use Rattle.visitor_walk.specs.Heard.{Hears}
-use Rattle.css_job.specs.Words.{Options, Command, Transform, Lint}
+use Rattle.css_job.specs.Words.{Command, Transform}
 use Rattle.css_job.specs.Reading.{Reading, IsReadingOf}
 use Rattle.css_job.specs.Faults.{line_of, name_of}
 use Rattle.css_job.specs.Plan.{Piece, Plan, Reached, Turn, plan_of, input_plan, text_plan, turn_of, kept_log}

@@ -1,5 +1,5 @@
 -- The walk of a run, and what it left.
-use Rattle.std.specs.Prelude.{◌≡◌, ◌≤◌, ℕ, List, [], ◌++◌, Option, Some, None}
+use Rattle.std.specs.Prelude.{◌≡◌, ◌≤◌, ℕ, List, [], Option, Some, None}
 use Rattle.node_store.specs.declared.item.Item.{Item}
 use Rattle.node_store.specs.Forest.{Forest, IsForest}
 use Rattle.node_store.specs.Fresh.{IsFresh}

@@ -132,7 +132,7 @@ fn transform(
     requires places { All (λ place. place < vec_len shelf.old) options.picked.items }
     requires plugins { vec_len shelf.old < 4294967296 }
     requires hooks { AreFew shelf.old.items }
-    ensures { let seen = shelf_seen (λ b. (⟦<dyn Visitor as Visitor>⟧ b.vtable).told b.value) (λ b. (⟦<dyn Visitor as Visitor>⟧ b.vtable).said b.value) (λ b. (⟦<dyn Visitor as Visitor>⟧ b.vtable).duty b.value) in
+    ensures { let seen = shelf_seen (λ b. (⟦<dyn Visitor as Visitor>⟧ b.vtable).told b.value) (λ b. (⟦<dyn Visitor as Visitor>⟧ b.vtable).said b.value) (λ b. (⟦<dyn Visitor as Visitor>⟧ b.vtable).duty b.value) (λ b. (⟦<dyn Visitor as Visitor>⟧ b.vtable).left b.value) in
         Planned (Transform (options_seen options)) (seen shelf.old.items) (seen shelf.new.items) work.text result }
 {
     work.facts();
@@ -177,7 +177,7 @@ fn read_plan(
     requires places { Picks (length shelf.old.items) command }
     requires plugins { vec_len shelf.old < 4294967296 }
     requires hooks { AreFew shelf.old.items }
-    ensures { let seen = shelf_seen (λ b. (⟦<dyn Visitor as Visitor>⟧ b.vtable).told b.value) (λ b. (⟦<dyn Visitor as Visitor>⟧ b.vtable).said b.value) (λ b. (⟦<dyn Visitor as Visitor>⟧ b.vtable).duty b.value) in
+    ensures { let seen = shelf_seen (λ b. (⟦<dyn Visitor as Visitor>⟧ b.vtable).told b.value) (λ b. (⟦<dyn Visitor as Visitor>⟧ b.vtable).said b.value) (λ b. (⟦<dyn Visitor as Visitor>⟧ b.vtable).duty b.value) (λ b. (⟦<dyn Visitor as Visitor>⟧ b.vtable).left b.value) in
         Planned (command_seen command) (seen shelf.old.items) (seen shelf.new.items) work.text result }
 {
     work.facts();
@@ -218,7 +218,7 @@ pub fn text_plan_of(
     requires places { Picks (length shelf.old.items) command }
     requires plugins { vec_len shelf.old < 4294967296 }
     requires hooks { AreFew shelf.old.items }
-    ensures { let seen = shelf_seen (λ b. (⟦<dyn Visitor as Visitor>⟧ b.vtable).told b.value) (λ b. (⟦<dyn Visitor as Visitor>⟧ b.vtable).said b.value) (λ b. (⟦<dyn Visitor as Visitor>⟧ b.vtable).duty b.value) in
+    ensures { let seen = shelf_seen (λ b. (⟦<dyn Visitor as Visitor>⟧ b.vtable).told b.value) (λ b. (⟦<dyn Visitor as Visitor>⟧ b.vtable).said b.value) (λ b. (⟦<dyn Visitor as Visitor>⟧ b.vtable).duty b.value) (λ b. (⟦<dyn Visitor as Visitor>⟧ b.vtable).left b.value) in
         Planned (command_seen command) (seen shelf.old.items) (seen shelf.new.items) text result }
 {
     match parse(alloc, text) {

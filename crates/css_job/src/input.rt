@@ -26,7 +26,7 @@ pub fn unread_input(alloc: Global) -> Result<Plan, AllocError>
     ensures { IfOk result (λ plan. plan_seen plan ≡ stopped (Fault.ReadFault input_name)) }
 {
     let name = input_name(alloc)?;
-    Ok(stop(alloc, Fault::ReadFault { name }, 1))
+    stop(alloc, Fault::ReadFault { name }, 1)
 }
 
 /// The plan that says that the input is too large. The only error is want of memory.
@@ -34,7 +34,7 @@ pub fn large_input(alloc: Global) -> Result<Plan, AllocError>
     ensures { IfOk result (λ plan. plan_seen plan ≡ stopped (Fault.TooLarge input_name)) }
 {
     let name = input_name(alloc)?;
-    Ok(stop(alloc, Fault::TooLarge { name }, 1))
+    stop(alloc, Fault::TooLarge { name }, 1)
 }
 
 /// The plan that says that the input isn't UTF-8. The only error is want of memory.
@@ -43,7 +43,7 @@ pub fn wrong_input(alloc: Global, fault: TextFault) -> Result<Plan, AllocError>
 {
     let name = input_name(alloc)?;
     let TextFault::NotUtf8 { at } = fault;
-    Ok(stop(alloc, Fault::NotUtf8 { name, at }, 1))
+    stop(alloc, Fault::NotUtf8 { name, at }, 1)
 }
 
 /// The plan that says that the input's text can't be read. The only error is want of memory.
@@ -51,5 +51,5 @@ pub fn faulty_input(alloc: Global, fault: SyntaxFault) -> Result<Plan, AllocErro
     ensures { IfOk result (λ plan. plan_seen plan ≡ stopped (Fault.Syntax input_name fault)) }
 {
     let name = input_name(alloc)?;
-    Ok(stop(alloc, Fault::Syntax { name, fault }, 1))
+    stop(alloc, Fault::Syntax { name, fault }, 1)
 }

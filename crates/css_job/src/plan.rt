@@ -29,16 +29,21 @@ pub struct Plan {
 }
 
 /// The plan that only says why the run stopped.
-pub fn stop(alloc: Global, fault: Fault, status: u8) -> Plan
+///
+/// # Errors
+///
+/// Only for want of memory.
+pub fn stop(alloc: Global, fault: Fault, status: u8) -> Result<Plan, AllocError>
     requires { status ≡ status_of fault }
-    ensures { plan_seen result ≡ stopped fault }
+    ensures { IfOk result (λ plan. plan_seen plan ≡ stopped fault) }
 {
-    Plan {
+    let caller = Txt::new(alloc, "")?;
+    Ok(Plan {
         fault: Some(fault),
-        caller: Txt::empty(),
+        caller,
         status,
         writes: Vec::new(alloc),
-    }
+    })
 }
 
 /// The plan that writes one text, and ends with that status.
@@ -51,9 +56,10 @@ pub fn one_write(alloc: Global, to: Target, text: Txt, status: u8) -> Result<Pla
 {
     let mut writes = Vec::new(alloc);
     writes.push(Write { to, text })?;
+    let caller = Txt::new(alloc, "")?;
     Ok(Plan {
         fault: None,
-        caller: Txt::empty(),
+        caller,
         status,
         writes,
     })

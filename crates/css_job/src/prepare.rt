@@ -38,7 +38,7 @@ fn input_plan_of(
     requires places { Picks (length shelf.old.items) command }
     requires plugins { vec_len shelf.old < 4294967296 }
     requires hooks { AreFew shelf.old.items }
-    ensures { let seen = shelf_seen (λ b. (⟦<dyn Visitor as Visitor>⟧ b.vtable).told b.value) (λ b. (⟦<dyn Visitor as Visitor>⟧ b.vtable).said b.value) (λ b. (⟦<dyn Visitor as Visitor>⟧ b.vtable).duty b.value) in
+    ensures { let seen = shelf_seen (λ b. (⟦<dyn Visitor as Visitor>⟧ b.vtable).told b.value) (λ b. (⟦<dyn Visitor as Visitor>⟧ b.vtable).said b.value) (λ b. (⟦<dyn Visitor as Visitor>⟧ b.vtable).duty b.value) (λ b. (⟦<dyn Visitor as Visitor>⟧ b.vtable).left b.value) in
         PlansInput (command_seen command) (seen shelf.old.items) (seen shelf.new.items) bytes.items result }
 {
     match Text::new(alloc, bytes) {
@@ -60,13 +60,16 @@ pub fn prepare<S: Source>(
 ) -> Result<Prepared, AllocError>
     requires plugins { vec_len shelf.old < 4294967296 }
     requires hooks { AreFew shelf.old.items }
-    ensures { let seen = shelf_seen (λ b. (⟦<dyn Visitor as Visitor>⟧ b.vtable).told b.value) (λ b. (⟦<dyn Visitor as Visitor>⟧ b.vtable).said b.value) (λ b. (⟦<dyn Visitor as Visitor>⟧ b.vtable).duty b.value) in
+    ensures { let seen = shelf_seen (λ b. (⟦<dyn Visitor as Visitor>⟧ b.vtable).told b.value) (λ b. (⟦<dyn Visitor as Visitor>⟧ b.vtable).said b.value) (λ b. (⟦<dyn Visitor as Visitor>⟧ b.vtable).duty b.value) (λ b. (⟦<dyn Visitor as Visitor>⟧ b.vtable).left b.value) in
         Prepares (asked (map word words.now) (seen shelf.old.items)) (seen shelf.new.items) (S.left input.old) (S.left input.new) (S.faults input.old)
         (S.faults input.new) result }
 {
     let command = match command_of(alloc, words, shelf) {
         Ok(Some(command)) => command,
-        Ok(None) => return Ok(unwalked(alloc, stop(alloc, Fault::Usage, 64))),
+        Ok(None) => {
+            let plan = stop(alloc, Fault::Usage, 64)?;
+            return Ok(unwalked(alloc, plan));
+        }
         Err(error) => return Err(error),
     };
     match read_all(alloc, input, LIMIT) {

@@ -44,7 +44,7 @@ fn run_job<S: Source, O: Sink, E: Sink>(
 ) -> Result<Ended, AllocError>
     requires plugins { vec_len shelf.old < 4294967296 }
     requires hooks { AreFew shelf.old.items }
-    ensures { let seen = shelf_seen (λ b. (⟦<dyn Visitor as Visitor>⟧ b.vtable).told b.value) (λ b. (⟦<dyn Visitor as Visitor>⟧ b.vtable).said b.value) (λ b. (⟦<dyn Visitor as Visitor>⟧ b.vtable).duty b.value) in
+    ensures { let seen = shelf_seen (λ b. (⟦<dyn Visitor as Visitor>⟧ b.vtable).told b.value) (λ b. (⟦<dyn Visitor as Visitor>⟧ b.vtable).said b.value) (λ b. (⟦<dyn Visitor as Visitor>⟧ b.vtable).duty b.value) (λ b. (⟦<dyn Visitor as Visitor>⟧ b.vtable).left b.value) in
         Runs (asked (map word words.now) (seen shelf.old.items)) (seen shelf.new.items)
         (moment S.Source O.Sink E.Sink input.old out.old err.old)
         (moment S.Source O.Sink E.Sink input.new out.new err.new) result }
@@ -88,17 +88,17 @@ pub fn run<S: Source, O: Sink, E: Sink>(
     requires hooks { AreFew shelf.old.items }
 
     // The status, the fault, the log and the texts are those of the answer to these words and this input.
-    ensures stated { let seen = shelf_seen (λ b. (⟦<dyn Visitor as Visitor>⟧ b.vtable).told b.value) (λ b. (⟦<dyn Visitor as Visitor>⟧ b.vtable).said b.value) (λ b. (⟦<dyn Visitor as Visitor>⟧ b.vtable).duty b.value) in
+    ensures stated { let seen = shelf_seen (λ b. (⟦<dyn Visitor as Visitor>⟧ b.vtable).told b.value) (λ b. (⟦<dyn Visitor as Visitor>⟧ b.vtable).said b.value) (λ b. (⟦<dyn Visitor as Visitor>⟧ b.vtable).duty b.value) (λ b. (⟦<dyn Visitor as Visitor>⟧ b.vtable).left b.value) in
         IfOk result (Ends (asked (map word words.now) (seen shelf.old.items))
         (moment S.Source O.Sink E.Sink input.old out.old err.old)
         (moment S.Source O.Sink E.Sink input.new out.new err.new)) }
-    ensures memory { let seen = shelf_seen (λ b. (⟦<dyn Visitor as Visitor>⟧ b.vtable).told b.value) (λ b. (⟦<dyn Visitor as Visitor>⟧ b.vtable).said b.value) (λ b. (⟦<dyn Visitor as Visitor>⟧ b.vtable).duty b.value) in
+    ensures memory { let seen = shelf_seen (λ b. (⟦<dyn Visitor as Visitor>⟧ b.vtable).told b.value) (λ b. (⟦<dyn Visitor as Visitor>⟧ b.vtable).said b.value) (λ b. (⟦<dyn Visitor as Visitor>⟧ b.vtable).duty b.value) (λ b. (⟦<dyn Visitor as Visitor>⟧ b.vtable).left b.value) in
         OnErr result (RanOut (asked (map word words.now) (seen shelf.old.items)) (seen shelf.new.items)
         (moment S.Source O.Sink E.Sink input.old out.old err.old)
         (moment S.Source O.Sink E.Sink input.new out.new err.new)) }
 
     // The visits are real: the visitors tell and say what the log holds of them.
-    ensures heard { let seen = shelf_seen (λ b. (⟦<dyn Visitor as Visitor>⟧ b.vtable).told b.value) (λ b. (⟦<dyn Visitor as Visitor>⟧ b.vtable).said b.value) (λ b. (⟦<dyn Visitor as Visitor>⟧ b.vtable).duty b.value) in
+    ensures heard { let seen = shelf_seen (λ b. (⟦<dyn Visitor as Visitor>⟧ b.vtable).told b.value) (λ b. (⟦<dyn Visitor as Visitor>⟧ b.vtable).said b.value) (λ b. (⟦<dyn Visitor as Visitor>⟧ b.vtable).duty b.value) (λ b. (⟦<dyn Visitor as Visitor>⟧ b.vtable).left b.value) in
         IfOk result (λ ended. Heard (seen shelf.old.items) (seen shelf.new.items) ended.log.items) }
 
     // Each fault has its cause.
@@ -118,22 +118,22 @@ pub fn run<S: Source, O: Sink, E: Sink>(
     ensures write_fault { IfOk result (WriteCause (command_of (shelf_names shelf.old.items) (map word words.now))
         (moment S.Source O.Sink E.Sink input.old out.old err.old)
         (moment S.Source O.Sink E.Sink input.new out.new err.new)) }
-    ensures plugin_failed { let seen = shelf_seen (λ b. (⟦<dyn Visitor as Visitor>⟧ b.vtable).told b.value) (λ b. (⟦<dyn Visitor as Visitor>⟧ b.vtable).said b.value) (λ b. (⟦<dyn Visitor as Visitor>⟧ b.vtable).duty b.value) in
+    ensures plugin_failed { let seen = shelf_seen (λ b. (⟦<dyn Visitor as Visitor>⟧ b.vtable).told b.value) (λ b. (⟦<dyn Visitor as Visitor>⟧ b.vtable).said b.value) (λ b. (⟦<dyn Visitor as Visitor>⟧ b.vtable).duty b.value) (λ b. (⟦<dyn Visitor as Visitor>⟧ b.vtable).left b.value) in
         IfOk result (PluginFailedCause (seen shelf.old.items) (seen shelf.new.items)) }
-    ensures budget_spent { let seen = shelf_seen (λ b. (⟦<dyn Visitor as Visitor>⟧ b.vtable).told b.value) (λ b. (⟦<dyn Visitor as Visitor>⟧ b.vtable).said b.value) (λ b. (⟦<dyn Visitor as Visitor>⟧ b.vtable).duty b.value) in
+    ensures budget_spent { let seen = shelf_seen (λ b. (⟦<dyn Visitor as Visitor>⟧ b.vtable).told b.value) (λ b. (⟦<dyn Visitor as Visitor>⟧ b.vtable).said b.value) (λ b. (⟦<dyn Visitor as Visitor>⟧ b.vtable).duty b.value) (λ b. (⟦<dyn Visitor as Visitor>⟧ b.vtable).left b.value) in
         IfOk result (BudgetCause (asked (map word words.now) (seen shelf.old.items))
         (moment S.Source O.Sink E.Sink input.old out.old err.old)) }
-    ensures edit_budget_spent { let seen = shelf_seen (λ b. (⟦<dyn Visitor as Visitor>⟧ b.vtable).told b.value) (λ b. (⟦<dyn Visitor as Visitor>⟧ b.vtable).said b.value) (λ b. (⟦<dyn Visitor as Visitor>⟧ b.vtable).duty b.value) in
+    ensures edit_budget_spent { let seen = shelf_seen (λ b. (⟦<dyn Visitor as Visitor>⟧ b.vtable).told b.value) (λ b. (⟦<dyn Visitor as Visitor>⟧ b.vtable).said b.value) (λ b. (⟦<dyn Visitor as Visitor>⟧ b.vtable).duty b.value) (λ b. (⟦<dyn Visitor as Visitor>⟧ b.vtable).left b.value) in
         IfOk result (EditBudgetCause (asked (map word words.now) (seen shelf.old.items))
         (moment S.Source O.Sink E.Sink input.old out.old err.old)) }
     ensures status { IfOk result (StatusCause (command_of (shelf_names shelf.old.items) (map word words.now))) }
 
     // What the commands write, and what a whole walk leaves.
-    ensures unchanged { let seen = shelf_seen (λ b. (⟦<dyn Visitor as Visitor>⟧ b.vtable).told b.value) (λ b. (⟦<dyn Visitor as Visitor>⟧ b.vtable).said b.value) (λ b. (⟦<dyn Visitor as Visitor>⟧ b.vtable).duty b.value) in
+    ensures unchanged { let seen = shelf_seen (λ b. (⟦<dyn Visitor as Visitor>⟧ b.vtable).told b.value) (λ b. (⟦<dyn Visitor as Visitor>⟧ b.vtable).said b.value) (λ b. (⟦<dyn Visitor as Visitor>⟧ b.vtable).duty b.value) (λ b. (⟦<dyn Visitor as Visitor>⟧ b.vtable).left b.value) in
         IfOk result (UnchangedCause (asked (map word words.now) (seen shelf.old.items))
         (moment S.Source O.Sink E.Sink input.old out.old err.old)
         (moment S.Source O.Sink E.Sink input.new out.new err.new)) }
-    ensures untouched { let seen = shelf_seen (λ b. (⟦<dyn Visitor as Visitor>⟧ b.vtable).told b.value) (λ b. (⟦<dyn Visitor as Visitor>⟧ b.vtable).said b.value) (λ b. (⟦<dyn Visitor as Visitor>⟧ b.vtable).duty b.value) in
+    ensures untouched { let seen = shelf_seen (λ b. (⟦<dyn Visitor as Visitor>⟧ b.vtable).told b.value) (λ b. (⟦<dyn Visitor as Visitor>⟧ b.vtable).said b.value) (λ b. (⟦<dyn Visitor as Visitor>⟧ b.vtable).duty b.value) (λ b. (⟦<dyn Visitor as Visitor>⟧ b.vtable).left b.value) in
         IfOk result (UntouchedCause (asked (map word words.now) (seen shelf.old.items))
         (moment S.Source O.Sink E.Sink input.old out.old err.old)
         (moment S.Source O.Sink E.Sink input.new out.new err.new)) }
@@ -143,21 +143,21 @@ pub fn run<S: Source, O: Sink, E: Sink>(
     ensures warned { IfOk result (WarnedCause (command_of (shelf_names shelf.old.items) (map word words.now))
         (moment S.Source O.Sink E.Sink input.old out.old err.old)
         (moment S.Source O.Sink E.Sink input.new out.new err.new)) }
-    ensures settled { let seen = shelf_seen (λ b. (⟦<dyn Visitor as Visitor>⟧ b.vtable).told b.value) (λ b. (⟦<dyn Visitor as Visitor>⟧ b.vtable).said b.value) (λ b. (⟦<dyn Visitor as Visitor>⟧ b.vtable).duty b.value) in
+    ensures settled { let seen = shelf_seen (λ b. (⟦<dyn Visitor as Visitor>⟧ b.vtable).told b.value) (λ b. (⟦<dyn Visitor as Visitor>⟧ b.vtable).said b.value) (λ b. (⟦<dyn Visitor as Visitor>⟧ b.vtable).duty b.value) (λ b. (⟦<dyn Visitor as Visitor>⟧ b.vtable).left b.value) in
         IfOk result (SettledCause (asked (map word words.now) (seen shelf.old.items))
         (moment S.Source O.Sink E.Sink input.old out.old err.old)) }
-    ensures never_spent { let seen = shelf_seen (λ b. (⟦<dyn Visitor as Visitor>⟧ b.vtable).told b.value) (λ b. (⟦<dyn Visitor as Visitor>⟧ b.vtable).said b.value) (λ b. (⟦<dyn Visitor as Visitor>⟧ b.vtable).duty b.value) in
+    ensures never_spent { let seen = shelf_seen (λ b. (⟦<dyn Visitor as Visitor>⟧ b.vtable).told b.value) (λ b. (⟦<dyn Visitor as Visitor>⟧ b.vtable).said b.value) (λ b. (⟦<dyn Visitor as Visitor>⟧ b.vtable).duty b.value) (λ b. (⟦<dyn Visitor as Visitor>⟧ b.vtable).left b.value) in
         IfOk result (NeverSpent (asked (map word words.now) (seen shelf.old.items))
         (moment S.Source O.Sink E.Sink input.old out.old err.old)) }
 
     // Another run with the same words, bytes, names, hooks and duties comes to the same.
-    ensures repeated { let seen = shelf_seen (λ b. (⟦<dyn Visitor as Visitor>⟧ b.vtable).told b.value) (λ b. (⟦<dyn Visitor as Visitor>⟧ b.vtable).said b.value) (λ b. (⟦<dyn Visitor as Visitor>⟧ b.vtable).duty b.value) in
+    ensures repeated { let seen = shelf_seen (λ b. (⟦<dyn Visitor as Visitor>⟧ b.vtable).told b.value) (λ b. (⟦<dyn Visitor as Visitor>⟧ b.vtable).said b.value) (λ b. (⟦<dyn Visitor as Visitor>⟧ b.vtable).duty b.value) (λ b. (⟦<dyn Visitor as Visitor>⟧ b.vtable).left b.value) in
         IfOk result (Repeated (asked (map word words.now) (seen shelf.old.items))
         (moment S.Source O.Sink E.Sink input.old out.old err.old)
         (moment S.Source O.Sink E.Sink input.new out.new err.new)) }
 
     // Without a cause there is no fault, and without a fault no call has failed.
-    ensures complete { let seen = shelf_seen (λ b. (⟦<dyn Visitor as Visitor>⟧ b.vtable).told b.value) (λ b. (⟦<dyn Visitor as Visitor>⟧ b.vtable).said b.value) (λ b. (⟦<dyn Visitor as Visitor>⟧ b.vtable).duty b.value) in
+    ensures complete { let seen = shelf_seen (λ b. (⟦<dyn Visitor as Visitor>⟧ b.vtable).told b.value) (λ b. (⟦<dyn Visitor as Visitor>⟧ b.vtable).said b.value) (λ b. (⟦<dyn Visitor as Visitor>⟧ b.vtable).duty b.value) (λ b. (⟦<dyn Visitor as Visitor>⟧ b.vtable).left b.value) in
         IfOk result (Completes (asked (map word words.now) (seen shelf.old.items)) (seen shelf.new.items)
         (moment S.Source O.Sink E.Sink input.old out.old err.old)
         (moment S.Source O.Sink E.Sink input.new out.new err.new)) }

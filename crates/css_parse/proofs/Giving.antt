@@ -1,7 +1,8 @@
 -- Blanks that are given back to a container, and its end.
-use Rattle.std.proofs.Common.{◌≡◌, ℕ, suc, zero, ◌<◌, List, [], ◌∷◌, ◌++◌, Bool, true, false, length, refl, ◌∙◌, sym, ap, append_assoc, append-nil, arith, get_or, set, Some}
+use Rattle.std.proofs.Common.{◌≡◌, ℕ, suc, zero, ◌<◌, List, [], ◌∷◌, ◌++◌, Bool, true, false, length, refl, ◌∙◌, sym, ap, append_assoc, append-nil, arith, get_or, Some}
 use Rattle.node_rows.specs.declared.node_list.NodeAt.{NodeAt}
-use Rattle.css_tree.specs.declared.node.NodeText.{NodeText}
+use Rattle.node_rows.specs.Ends.{with_entry_block, with_entry_end}
+use Rattle.css_tree.specs.declared.node.Block.{Block}
 use Rattle.css_tree.specs.Pieces.{Piece, Shape, shape, is_blank, is_blank_shape, join, end_of}
 use Rattle.css_tree.specs.Nodes.{Nodes, comment, ends_with_semicolon}
 use Rattle.css_tree.specs.Classes.{Each, BeginsWithout}
@@ -14,7 +15,7 @@ use Rattle.css_parse.specs.declared.piece.Shape.{Shape as Form}
 use Rattle.css_parse.specs.declared.piece.Shape.TheVariants as FormOf
 use Rattle.css_parse.specs.Shapes.{named}
 use Rattle.css_parse.specs.Gaps.{gap_of}
-use Rattle.css_parse.specs.Machine.{flat, comment_node, leaf_node, alter, seal, seal_root, with_block, Machine, given, sealed, left, next}
+use Rattle.css_parse.specs.Machine.{flat, comment_node, leaf_node, alter, seal, seal_root, Machine, given, sealed, left, next}
 use Rattle.css_parse.proofs.Joins.{join-nil}
 use Rattle.css_parse.proofs.MachineSteps.{alter-append, gap-join, more-gap}
 
@@ -137,11 +138,17 @@ given-idle s e = idle_given s.nodes s.number s.semicolon s.frames s.gap s.run s.
         ∙ ap (λ z. record { nodes = ns; number = j; semicolon = b; frames = fs; gap = z; run = []; awaited = aw }) (gap-join g)
     idle_given ns j b fs g (q ∷ r) aw e = absurd (cc)
 
-pub alter-set : (ns : List NodeAt) (j : ℕ) (h : NodeAt → NodeAt) (d : NodeAt) → j < length ns → alter j h ns ≡ set ns j (h (get_or ns j d))
+block-altered : (ns : List NodeAt) (j : ℕ) (b : Bool) (g : List ℕ) → j < length ns → with_entry_block ns j (record { semicolon = b; after = Some g }) ≡ alter j (seal_root b g) ns
 unfolding alter
-alter-set [] j h d l = absurd (omega arith)
-alter-set (x ∷ ns) zero h d l = refl
-alter-set (x ∷ ns) (suc j) h d l = ap (λ z. x ∷ z) (alter-set ns j h d (omega arith))
+block-altered [] j b g l = absurd (omega arith)
+block-altered (x ∷ ns) zero b g l = refl
+block-altered (x ∷ ns) (suc j) b g l = ap (λ z. x ∷ z) (block-altered ns j b g (omega arith))
+
+end-altered : (ns : List NodeAt) (j : ℕ) (b : Bool) (g : List ℕ) (p : Piece) → j < length ns → with_entry_end (with_entry_block ns j (record { semicolon = b; after = Some g })) j (end_of p) ≡ alter j (seal b g p) ns
+unfolding alter
+end-altered [] j b g p l = absurd (omega arith)
+end-altered (x ∷ ns) zero b g p l = refl
+end-altered (x ∷ ns) (suc j) b g p l = ap (λ z. x ∷ z) (end-altered ns j b g p (omega arith))
 
 -- closing a block is giving back, sealing and leaving
 pub close-steps : (s : Machine) (p : Piece) → s.number < length s.nodes → left (sealed (given s) p) ≡ next s p closes
@@ -173,22 +180,18 @@ abbrev with_nodes : Machine → List NodeAt → Machine
 with_nodes s ns = record { nodes = ns; number = s.number; semicolon = s.semicolon; frames = s.frames; gap = s.gap; run = s.run; awaited = s.awaited }
 
 -- the open container with its end
-pub sealed-node : (s : Machine) (p : Piece) (x d : NodeAt) (t : NodeText) (e : ℕ) → s.number < length s.nodes → x ≡ get_or s.nodes s.number d
-    → t ≡ with_block x.text (record { semicolon = s.semicolon; after = Some s.gap }) → e ≡ end_of p
-    → record { nodes = set s.nodes s.number (record { parent = x.parent; text = t; span = record { start = x.span.start; end = e } }); number = s.number; semicolon = s.semicolon; frames = s.frames; gap = s.gap; run = s.run; awaited = s.awaited } ≡ sealed s p
-sealed-node s p x d t e l ex et ee =
+pub sealed-node : (s : Machine) (p : Piece) (block : Block) (e : ℕ) (ms ks : List NodeAt) → s.number < length s.nodes
+    → block ≡ record { semicolon = s.semicolon; after = Some s.gap } → ms ≡ with_entry_block s.nodes s.number block → e ≡ end_of p → ks ≡ with_entry_end ms s.number e
+    → record { nodes = ks; number = s.number; semicolon = s.semicolon; frames = s.frames; gap = s.gap; run = s.run; awaited = s.awaited } ≡ sealed s p
+sealed-node s p block e ms ks l eb em ee ek =
+    let was = em ∙ ap (with_entry_block s.nodes s.number) eb in
     ap (with_nodes s)
-    (ap (λ y. set s.nodes s.number y)
-    (ap (λ z. record { parent = x.parent; text = z; span = record { start = x.span.start; end = e } }) et
-    ∙ (ap (λ z. record { parent = x.parent; text = with_block x.text (record { semicolon = s.semicolon; after = Some s.gap }); span = record { start = x.span.start; end = z } }) ee
-    ∙ ap (seal s.semicolon s.gap p) ex))
-    ∙ sym (alter-set s.nodes s.number (seal s.semicolon s.gap p) d l))
+    (ek ∙ (ap (λ z. with_entry_end z s.number e) was
+    ∙ (ap (with_entry_end (with_entry_block s.nodes s.number (record { semicolon = s.semicolon; after = Some s.gap })) s.number) ee
+    ∙ end-altered s.nodes s.number s.semicolon s.gap p l)))
 
-pub sealed-root : (b : Bool) (g : List ℕ) (ns : List NodeAt) (n : ℕ) (x d : NodeAt) (t : NodeText) → n < length ns → x ≡ get_or ns n d
-    → t ≡ with_block x.text (record { semicolon = b; after = Some g })
-    → set ns n (record { parent = x.parent; text = t; span = x.span }) ≡ alter n (seal_root b g) ns
-sealed-root b g ns n x d t l ex et =
-    ap (λ y. set ns n y) (ap (λ z. record { parent = x.parent; text = z; span = x.span }) et ∙ ap (seal_root b g) ex)
-    ∙ sym (alter-set ns n (seal_root b g) d l)
+pub sealed-root : (b : Bool) (g : List ℕ) (ns : List NodeAt) (n : ℕ) (block : Block) (ms : List NodeAt) → n < length ns
+    → block ≡ record { semicolon = b; after = Some g } → ms ≡ with_entry_block ns n block → ms ≡ alter n (seal_root b g) ns
+sealed-root b g ns n block ms l eb em = em ∙ (ap (with_entry_block ns n) eb ∙ block-altered ns n b g l)
 
 pub ruleset given_steps = (given-nodes_space, given-behind_space, given-nodes_comment, given-behind_comment, given-nodes_none, given-behind_none)

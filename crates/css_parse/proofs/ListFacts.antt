@@ -1,5 +1,5 @@
 -- What the list of a reading's nodes meets, together.
-use Rattle.std.proofs.Common.{◌≡◌, ◌≢◌, ℕ, zero, suc, ◌+◌, ◌<◌, ◌≤◌, List, [], ◌∷◌, ◌++◌, length, Option, Some, None, IsSome, Result, Ok, Err, Vec, Global, refl, ◌∙◌, sym, ap, subst, arith}
+use Rattle.std.proofs.Common.{◌≡◌, ◌≢◌, ℕ, zero, suc, ◌+◌, ◌<◌, ◌≤◌, List, [], ◌∷◌, ◌++◌, length, Option, Some, None, IsSome, Result, Ok, Err, refl, ◌∙◌, sym, ap, subst, arith}
 use Rattle.std.specs.Str.{chars, IsUtf8, IsCharBoundary}
 use lib.Utf8.{encodes}
 use Rattle.std.proofs.lemmas.Str.{IsCharBoundary-start, IsCharBoundary-end}
@@ -97,8 +97,8 @@ listed s bs xs u e c short h =
     (record { list = list s h.nodes h.behind bs u e c short h.is_read; tree = tree_of s h.nodes h.behind; reads = read-reads s h.nodes h.behind h.is_read; are_numbered = all-numbered s h.nodes h.behind })
 
 -- what reading a text answers, of the machine's answer
-pub nodes_of : (r : Result (Vec NodeAt Global) (Stop Fault)) (s bs : List ℕ) → IsUtf8 bs → bs ≡ encodes s → chars bs ≡ s → length bs ≤ 67108864 → IsRead r (chars bs) → IsNodes r s
-nodes_of (Ok v) s bs u e c short h = listed s bs v.items u e c short (reading_of s v.items (subst (λ z. whole z ≡ done v.items) c h))
+pub nodes_of : (r : Result (List NodeAt) (Stop Fault)) (s bs : List ℕ) → IsUtf8 bs → bs ≡ encodes s → chars bs ≡ s → length bs ≤ 67108864 → IsRead r (chars bs) → IsNodes r s
+nodes_of (Ok es) s bs u e c short h = listed s bs es u e c short (reading_of s es (subst (λ z. whole z ≡ done es) c h))
 nodes_of (Err (StopOf.Fault f)) s bs u e c short h =
     let k = fault_of s f (subst (λ z. whole z ≡ faulty f) c h) in
     (k, subst (λ z. IsCharBoundary z f.at) e (fault-boundary bs f u (ap fault c ∙ k)))

@@ -14,9 +14,10 @@ use Rattle.css_tree.proofs.Sound.{Holds}
 use Rattle.css_tree.proofs.Agrees.{fault_in}
 use Rattle.css_tree.proofs.Reading.{read, read-holds, fault-is}
 use Rattle.node_rows.specs.declared.node_list.NodeAt.{NodeAt}
+use Rattle.node_rows.specs.Ends.{with_block}
 use Rattle.node_store.specs.Fresh.{numbered_of}
 use Rattle.css_parse.specs.Gaps.{gap_of}
-use Rattle.css_parse.specs.Machine.{leaf_node, open_end, with_block, seal_root, root_node, count, flat, alter, resume, faulty, done, final, answer, start}
+use Rattle.css_parse.specs.Machine.{leaf_node, open_end, seal_root, root_node, count, flat, alter, resume, faulty, done, final, answer, start}
 use Rattle.css_parse.specs.Reading.{whole}
 use Rattle.css_parse.proofs.Joins.{join-nil}
 use Rattle.css_parse.proofs.MachineSteps.{same, gap-join}

@@ -1,5 +1,5 @@
 -- The loop over the pieces of a text.
-use Rattle.std.proofs.Common.{◌≡◌, ℕ, ◌+◌, ◌-◌, ◌<◌, ◌≤◌, List, [], ◌∷◌, Option, Some, None, Result, Ok, Err, Vec, Global, length, take, drop, refl, ◌∙◌, sym, ap, subst, arith}
+use Rattle.std.proofs.Common.{◌≡◌, ℕ, ◌+◌, ◌-◌, ◌<◌, ◌≤◌, List, [], ◌∷◌, Option, Some, None, Result, Ok, Err, length, take, drop, refl, ◌∙◌, sym, ap, subst, arith}
 use Rattle.std.specs.Str.{chars, IsUtf8, IsCharBoundary}
 use Rattle.css_text.specs.declared.lexer.Piece.{Piece as LexPiece}
 use Rattle.css_text.specs.declared.lexer.LexFault.{LexFault}
@@ -67,7 +67,7 @@ pub record Taken (s bs : List ℕ) (lexer : Ahead) (m : Machine) (p : LexPiece) 
   pub ready : IsReady m
   pub small : IsSmall m (seen bs p).at
   pub longer : (seen bs p).at < end_of (seen bs p)
-  pub within : (seen bs p).at ≤ length bs
+  pub within : end_of (seen bs p) ≤ length bs
   pub fewer : length (rest_of lexer.pieces) < length lexer.pieces
   pub on : (n : Machine) → IsReady n → IsSmall n (end_of (seen bs p)) → Advances m (seen bs p) n → Reading s bs (record { pieces = rest_of lexer.pieces; fault = lexer.fault }) n
   pub stop : (f : Fault) → ((ps : List Piece) (lex : Option Fault) → answer m (seen bs p ∷ ps) lex ≡ faulty f) → whole s ≡ faulty f
@@ -95,7 +95,7 @@ taken_by s bs lexer m p h u x =
       ready = h.ready;
       small = subst (λ z. IsSmall m z) (sym begin) h.small;
       longer = subst (λ z. z.at < end_of z) (sym is) long;
-      within = omega (arith, x.slice.order, x.slice.fits);
+      within = subst (λ z. z ≤ length bs) (end ∙ sym (ap end_of is)) x.slice.fits;
       fewer = x.fewer;
       on = λ n r l a. record {
         tokens = x.others;
@@ -119,6 +119,10 @@ taken_by s bs lexer m p h u x =
 
 pub taken : (s bs : List ℕ) (lexer : Ahead) (m : Machine) (p : LexPiece) → IsUtf8 bs → Reading s bs lexer m → next_of lexer.pieces lexer.fault ≡ Ok (Some p) → Taken s bs lexer m p
 taken s bs lexer m p u h e = taken_by s bs lexer m p h u (at_next bs h.at h.tokens h.rest h.fault lexer p h.is_at e)
+
+-- a text with so many bytes has no more nodes and pieces in progress
+pub small-within : (s bs : List ℕ) (lexer : Ahead) (m : Machine) → Reading s bs lexer m → length bs ≤ 67108864 → IsSmall m 67108864
+small-within s bs lexer m h short = omega (arith, h.small, h.is_at.here.fits, short)
 
 -- behind the last piece
 pub ended : (s bs : List ℕ) (lexer : Ahead) (m : Machine) → Reading s bs lexer m → next_of lexer.pieces lexer.fault ≡ Ok None → whole s ≡ answer m [] None
@@ -153,7 +157,7 @@ broken s bs lexer m x h e =
           ∙ (ap (λ z. answer m [] (lexical_at h.at z)) k.2 ∙ (ap (λ z. answer m [] z) (found-is h.at k.0) ∙ (lex-answer m (found_of (fault_at h.at k.0)) ∙ ap (λ z. faulty (found_of z)) (sym k.3)))));
     }
 
-pub read_end : (r : Result (Vec NodeAt Global) (Stop Fault)) (s : List ℕ) (m : Machine) → whole s ≡ answer m [] None → IsEnd r m → IsRead r s
+pub read_end : (r : Result (List NodeAt) (Stop Fault)) (s : List ℕ) (m : Machine) → whole s ≡ answer m [] None → IsEnd r m → IsRead r s
 read_end (Ok v) s m e h = e ∙ h
 read_end (Err (StopOf.Fault f)) s m e h = e ∙ h
 read_end (Err (StopOf.Memory x)) s m e h = tt

@@ -16,8 +16,9 @@ use Rattle.css_tree.specs.Nodes.{Nodes, none, comment, leaf, block, line, ends_w
 use Rattle.css_tree.proofs.Split.{hack}
 use Rattle.css_tree.proofs.TreeOf.{leaf_text, leaf_text_by, leaf_span, block_text, block_text_by, hack_of_shape, trees}
 use Rattle.node_rows.specs.declared.node_list.NodeAt.{NodeAt}
+use Rattle.node_rows.specs.Ends.{with_block}
 use Rattle.css_parse.specs.Gaps.{gap_of}
-use Rattle.css_parse.specs.Machine.{comment_node, leaf_node, leaf_start, leaf_bytes, open_node, open_end, with_block, seal, count, flat}
+use Rattle.css_parse.specs.Machine.{comment_node, leaf_node, leaf_start, leaf_bytes, open_node, open_end, seal, count, flat}
 use Rattle.css_parse.proofs.Ascii.{hack-all, hack-size}
 
 abbrev pub All : (NodeAt → Type 0) → List NodeAt → Type 0

@@ -1,7 +1,6 @@
 -- What reading a text answers.
-use Rattle.std.specs.Prelude.{◌≡◌, ℕ, List, map, Some, Result, Ok, Err, Vec, encode_utf8_all}
+use Rattle.std.specs.Prelude.{◌≡◌, ℕ, List, map, Some, Result, Ok, Err, encode_utf8_all}
 use Rattle.std.specs.Str.{IsCharBoundary}
-use Rattle.std.proofs.Common.{Global}
 use Rattle.css_text.specs.declared.stop.Stop.{Stop}
 use Rattle.css_text.specs.declared.stop.Stop.TheVariants as E
 use Rattle.css_text.specs.Place.{place_of}
@@ -22,8 +21,8 @@ pub record IsListed (s : List ℕ) (es : List NodeAt) : Type 0 where
   pub are_numbered : map numbered_of es ≡ numbered tree
 
 -- the nodes of a text, or its fault
-abbrev pub IsNodes : Result (Vec NodeAt Global) (Stop Fault) → List ℕ → Type 0
-IsNodes (Ok v) s = IsListed s v.items
+abbrev pub IsNodes : Result (List NodeAt) (Stop Fault) → List ℕ → Type 0
+IsNodes (Ok es) s = IsListed s es
 IsNodes (Err (E.Fault f)) s = (fault s ≡ Some f) × IsCharBoundary (encode_utf8_all s) f.at
 IsNodes (Err (E.Memory e)) s = Unit {0}
 

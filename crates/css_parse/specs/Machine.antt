@@ -2,9 +2,9 @@
 use Rattle.std.specs.Prelude.{◌≡◌, ℕ, zero, suc, ◌+◌, ◌<◌, List, [], ◌∷◌, ◌++◌, Bool, true, false, Option, Some, None, length, map}
 use Rattle.css_text.specs.declared.lexer.Span.{Span}
 use Rattle.css_tree.specs.declared.node.Block.{Block}
-use Rattle.css_tree.specs.declared.node.NodeText.{NodeText}
 use Rattle.css_tree.specs.declared.node.NodeText.TheVariants as N
 use Rattle.node_rows.specs.declared.node_list.NodeAt.{NodeAt}
+use Rattle.node_rows.specs.Ends.{with_block}
 use Rattle.css_tree.specs.Classes.{BeginsWithout}
 use Rattle.css_tree.specs.Pieces.{Piece, shape, is_blank, join, end_of, last_end}
 use Rattle.css_tree.specs.Turn.{Turn, within, gap, alone, ends, closes, opens}
@@ -38,13 +38,6 @@ leaf_node j g r = record { parent = j; text = leaf_text (gap_of g) r; span = lea
 -- a container before its end is known
 abbrev pub open_node : ℕ → List ℕ → List Piece → Piece → NodeAt
 open_node j g r p = record { parent = j; text = block_text (gap_of g) r open_end; span = record { start = first_at r p; end = end_of p } }
-
-abbrev pub with_block : NodeText → Block → NodeText
-with_block (N.Root bom old) new = N.Root bom new
-with_block (N.AtRule before name after_name params between old) new = N.AtRule before name after_name params between (Some new)
-with_block (N.Rule before selector between old) new = N.Rule before selector between new
-with_block (N.Declaration before prop between value important important_raw tail) new = N.Declaration before prop between value important important_raw tail
-with_block (N.Comment before left text right) new = N.Comment before left text right
 
 -- with its end: the flag, the text before its `}`, and the `}`
 abbrev pub seal : Bool → List ℕ → Piece → NodeAt → NodeAt

@@ -1,6 +1,5 @@
 -- How the parser stands to its machine.
-use Rattle.std.specs.Prelude.{◌≡◌, ◌+◌, ◌≤◌, ℕ, List, [], ◌∷◌, reverse, length, Option, None, Result, Ok, Err, Vec}
-use Rattle.std.proofs.Common.{Global}
+use Rattle.std.specs.Prelude.{◌≡◌, ◌+◌, ◌≤◌, ℕ, List, [], ◌∷◌, reverse, length, Option, None, Result, Ok, Err}
 use Rattle.css_text.specs.declared.stop.Stop.{Stop}
 use Rattle.css_text.specs.declared.stop.Stop.TheVariants as E
 use Rattle.node_rows.specs.declared.node_list.NodeAt.{NodeAt}
@@ -11,7 +10,7 @@ use Rattle.css_parse.specs.Machine.{Machine, answer, faulty, done}
 
 abbrev pub model : Parser → Machine
 model p = record {
-  nodes = p.nodes.items;
+  nodes = p.nodes;
   number = p.number;
   semicolon = p.semicolon;
   frames = reverse p.frames.items;
@@ -34,7 +33,7 @@ IsStop (E.Fault f) s p = (ps : List Piece) (lex : Option Fault) → answer s (p 
 IsStop (E.Memory e) s p = Unit {0}
 
 -- what a state comes to with no further pieces
-abbrev pub IsEnd : Result (Vec NodeAt Global) (Stop Fault) → Machine → Type 0
-IsEnd (Ok v) s = answer s [] None ≡ done v.items
+abbrev pub IsEnd : Result (List NodeAt) (Stop Fault) → Machine → Type 0
+IsEnd (Ok es) s = answer s [] None ≡ done es
 IsEnd (Err (E.Fault f)) s = answer s [] None ≡ faulty f
 IsEnd (Err (E.Memory e)) s = Unit {0}

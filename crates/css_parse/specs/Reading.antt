@@ -1,6 +1,5 @@
 -- What the loop over the pieces of a text answers.
-use Rattle.std.specs.Prelude.{◌≡◌, ℕ, List, Result, Ok, Err, Vec}
-use Rattle.std.proofs.Common.{Global}
+use Rattle.std.specs.Prelude.{◌≡◌, ℕ, List, Result, Ok, Err}
 use Rattle.css_text.specs.declared.stop.Stop.{Stop}
 use Rattle.css_text.specs.declared.stop.Stop.TheVariants as E
 use Rattle.css_text.specs.Ahead.{byte_len, begins_bom}
@@ -13,7 +12,7 @@ use Rattle.css_parse.specs.Machine.{Final, answer, faulty, done, start}
 abbrev pub whole : List ℕ → Final
 whole s = answer (start (begins_bom s) (byte_len s)) (pieces_of s) (lexical_fault s)
 
-abbrev pub IsRead : Result (Vec NodeAt Global) (Stop Fault) → List ℕ → Type 0
-IsRead (Ok v) s = whole s ≡ done v.items
+abbrev pub IsRead : Result (List NodeAt) (Stop Fault) → List ℕ → Type 0
+IsRead (Ok es) s = whole s ≡ done es
 IsRead (Err (E.Fault f)) s = whole s ≡ faulty f
 IsRead (Err (E.Memory e)) s = Unit {0}

@@ -157,10 +157,11 @@ fn unmarked_value(texts: Texts, body: &[Piece]) -> Result<Value, AllocError>
 {
     let text = text_of(texts, body)?;
     let source = source_of(texts.alloc, text)?;
+    let important_raw = texts.empty()?;
     Ok(Value {
         source,
         important: false,
-        important_raw: Txt::empty(),
+        important_raw,
     })
 }
 

@@ -5,7 +5,7 @@ ghost use Rattle.css_tree.specs.Pieces.{shape, last_end, Shape as S};
 ghost use Rattle.css_tree.specs.Fields.{first_at};
 ghost use Rattle.css_tree.proofs.TreeOf.{block_text as block_text_of};
 ghost use Rattle.css_parse.specs.Gaps.{gap_of};
-ghost use Rattle.css_parse.specs.Machine.{comment_node, leaf_node, open_node, open_end, with_block};
+ghost use Rattle.css_parse.specs.Machine.{comment_node, leaf_node, open_node, open_end};
 
 use crate::fields;
 use crate::piece::{Piece, Shape};
@@ -116,18 +116,5 @@ fn block_text(texts: Texts, gap: &str, start: u32, run: &[Piece]) -> Result<Node
             Shape::AtName => fields::at_rule(texts, gap, word, rest, Some(open_end())),
             _ => fields::rule(texts, gap, start, run, open_end()),
         },
-    }
-}
-
-/// Writes the end of a container.
-pub fn set_block(text: &mut NodeText, block: Block)
-    ensures { text.new ≡ with_block text.old block }
-{
-    match text {
-        NodeText::Root { block: b, .. } => *b = block,
-        NodeText::AtRule { block: b, .. } => *b = Some(block),
-        NodeText::Rule { block: b, .. } => *b = block,
-        NodeText::Declaration { .. } => {}
-        NodeText::Comment { .. } => {}
     }
 }

@@ -35,7 +35,7 @@ fn spaces(rt: HostRuntime) -> Result<(), Fail> {
         assert!(rt; src.len() <= 100);
         let text = text_of(rt.alloc(), src).ok().ok_or("a text")?;
         let nodes = read(rt.alloc(), &text).ok().ok_or("nodes")?;
-        let got = shown(rt.alloc(), nodes.as_slice())?;
+        let got = shown(rt.alloc(), nodes)?;
         assert_eq!(rt; got.as_str(), want);
     }
     Ok(())
@@ -84,7 +84,7 @@ fn comments(rt: HostRuntime) -> Result<(), Fail> {
         assert!(rt; src.len() <= 100);
         let text = text_of(rt.alloc(), src).ok().ok_or("a text")?;
         let nodes = read(rt.alloc(), &text).ok().ok_or("nodes")?;
-        let got = shown(rt.alloc(), nodes.as_slice())?;
+        let got = shown(rt.alloc(), nodes)?;
         assert_eq!(rt; got.as_str(), want);
     }
     Ok(())
@@ -145,7 +145,7 @@ fn at_rules(rt: HostRuntime) -> Result<(), Fail> {
         assert!(rt; src.len() <= 100);
         let text = text_of(rt.alloc(), src).ok().ok_or("a text")?;
         let nodes = read(rt.alloc(), &text).ok().ok_or("nodes")?;
-        let got = shown(rt.alloc(), nodes.as_slice())?;
+        let got = shown(rt.alloc(), nodes)?;
         assert_eq!(rt; got.as_str(), want);
     }
     Ok(())
@@ -202,7 +202,7 @@ fn selectors(rt: HostRuntime) -> Result<(), Fail> {
         assert!(rt; src.len() <= 100);
         let text = text_of(rt.alloc(), src).ok().ok_or("a text")?;
         let nodes = read(rt.alloc(), &text).ok().ok_or("nodes")?;
-        let got = shown(rt.alloc(), nodes.as_slice())?;
+        let got = shown(rt.alloc(), nodes)?;
         assert_eq!(rt; got.as_str(), want);
     }
     Ok(())
@@ -285,7 +285,7 @@ fn declarations(rt: HostRuntime) -> Result<(), Fail> {
         assert!(rt; src.len() <= 100);
         let text = text_of(rt.alloc(), src).ok().ok_or("a text")?;
         let nodes = read(rt.alloc(), &text).ok().ok_or("nodes")?;
-        let got = shown(rt.alloc(), nodes.as_slice())?;
+        let got = shown(rt.alloc(), nodes)?;
         assert_eq!(rt; got.as_str(), want);
     }
     Ok(())
@@ -379,7 +379,7 @@ fn marks(rt: HostRuntime) -> Result<(), Fail> {
         assert!(rt; src.len() <= 100);
         let text = text_of(rt.alloc(), src).ok().ok_or("a text")?;
         let nodes = read(rt.alloc(), &text).ok().ok_or("nodes")?;
-        let got = shown(rt.alloc(), nodes.as_slice())?;
+        let got = shown(rt.alloc(), nodes)?;
         assert_eq!(rt; got.as_str(), want);
     }
     Ok(())

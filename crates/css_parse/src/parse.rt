@@ -41,8 +41,5 @@ pub fn parse(alloc: Global, text: Text) -> Result<Work, Stop<SyntaxFault>>
         Err(Stop::Fault(found)) => return Err(Stop::Fault(placed(&text, found))),
         Err(Stop::Memory(e)) => return Err(Stop::Memory(e)),
     };
-    match Work::from_nodes(alloc, text, nodes) {
-        Ok(work) => Ok(work),
-        Err(e) => Err(Stop::Memory(e)),
-    }
+    Ok(Work::from_list(alloc, text, nodes))
 }

@@ -12,7 +12,7 @@ ghost use Rattle.css_parse.specs.declared.turn.Step.TheVariants as St;
 
 use crate::found::Found;
 use crate::gap::Gap;
-use crate::nodes::{comment_node, leaf_node, open_end, open_node, set_block};
+use crate::nodes::{comment_node, leaf_node, open_end, open_node};
 use crate::piece::{Piece, Shape};
 use crate::run::Run;
 use crate::texts::{Texts, end_of, solid_len};
@@ -20,7 +20,7 @@ use crate::turn::{Frame, Step, fits, fits_end, turn};
 use css_text::lexer::Span;
 use css_text::stop::Stop;
 use css_tree::node::{Block, NodeText};
-use node_rows::node_list::NodeAt;
+use node_rows::node_list::NodeList;
 use std::alloc::AllocError;
 
 /// Where texts come from; the nodes so far; the open container's number, and whether a `;` stands behind its last declaration or blockless
@@ -29,7 +29,7 @@ use std::alloc::AllocError;
 #[derive(Drop)]
 pub struct Parser<'t> {
     pub texts: Texts<'t>,
-    pub nodes: Vec<NodeAt>,
+    pub nodes: NodeList,
     pub number: u32,
     pub semicolon: bool,
     pub frames: Vec<Frame<'t>>,
@@ -42,13 +42,15 @@ pub struct Parser<'t> {
 #[tactic(auto, using(std::proofs::lemmas::Grind::common_steps, crate::proofs::Giving::given_steps), unfolding(crate::proofs::Giving::given_nodes, crate::proofs::Giving::given_behind))]
 fn settle(
     texts: Texts,
-    nodes: &mut Vec<NodeAt>,
+    nodes: &mut NodeList,
     number: u32,
     gap: &mut Gap,
     blanks: &[Piece],
 ) -> Result<(), AllocError>
-    requires { Each is_blank blanks.now }
-    ensures nodes { IfOk result (λ _. nodes.new.items ≡ nodes.old.items ++ flat number (length nodes.old.items) (settle (gap_of (gap.old)) blanks.now).nodes) }
+    requires blanks { Each is_blank blanks.now }
+    requires room { length nodes.old + length blanks.now ≤ 67108865 }
+    requires known { number < length nodes.old }
+    ensures nodes { IfOk result (λ _. nodes.new ≡ nodes.old ++ flat number (length nodes.old) (settle (gap_of (gap.old)) blanks.now).nodes) }
     ensures gap { IfOk result (λ _. gap.new ≡ join (settle (gap_of (gap.old)) blanks.now).behind) }
 {
     for piece in blanks {
@@ -70,18 +72,15 @@ impl<'t> Parser<'t> {
         ensures { IfOk result (λ p. model p ≡ start bom size) }
     {
         let alloc = texts.alloc;
-        let mut nodes = Vec::new(alloc);
-        nodes.push(NodeAt {
-            parent: 0,
-            text: NodeText::Root {
-                bom,
-                block: open_end(),
-            },
-            span: Span {
-                start: 0,
-                end: size,
-            },
-        })?;
+        let root = NodeText::Root {
+            bom,
+            block: open_end(),
+        };
+        let bytes = Span {
+            start: 0,
+            end: size,
+        };
+        let nodes = NodeList::new(alloc, root, bytes)?;
         Ok(Parser {
             texts,
             nodes,
@@ -102,7 +101,9 @@ impl<'t> Parser<'t> {
     }
 
     fn add_comment(&mut self, piece: &Piece<'t>) -> Result<(), AllocError>
-        requires { shape piece.now ≡ S.comment }
+        requires comment { shape piece.now ≡ S.comment }
+        requires room { length self.old.nodes < 67108865 }
+        requires known { self.old.number < length self.old.nodes }
         ensures { IfOk result (λ _. model self.new ≡ next (model self.old) piece.now alone) }
     {
         let node = comment_node(self.texts, self.number, self.gap.as_str(), piece)?;
@@ -112,7 +113,9 @@ impl<'t> Parser<'t> {
     }
 
     fn add_leaf(&mut self, piece: &Piece<'t>) -> Result<(), AllocError>
-        requires { 0 < length self.old.run }
+        requires begun { 0 < length self.old.run }
+        requires room { length self.old.nodes < 67108865 }
+        requires known { self.old.number < length self.old.nodes }
         ensures { IfOk result (λ _. model self.new ≡ next (model self.old) piece.now ends) }
     {
         let run = self.run.as_slice();
@@ -125,7 +128,8 @@ impl<'t> Parser<'t> {
     }
 
     fn open_block(&mut self, piece: Piece<'t>) -> Result<(), AllocError>
-        requires { length self.old.nodes.items < 4294967296 }
+        requires room { length self.old.nodes < 67108865 }
+        requires known { self.old.number < length self.old.nodes }
         ensures { IfOk result (λ _. model self.new ≡ next (model self.old) piece.entry opens) }
     {
         let number = self.nodes.len() as u32;
@@ -168,7 +172,8 @@ impl<'t> Parser<'t> {
 
     /// At a container's end: the statement in progress becomes a node, and its trailing blanks are given back.
     fn give_back(&mut self) -> Result<(), AllocError>
-        requires { IsReady (model self.old) }
+        requires ready { IsReady (model self.old) }
+        requires small { IsSmall (model self.old) 67108864 }
         ensures { IfOk result (λ _. model self.new ≡ given (model self.old)) }
     {
         if self.run.as_slice().is_empty() {
@@ -204,22 +209,21 @@ impl<'t> Parser<'t> {
     }
 
     fn seal(&mut self, piece: &Piece<'t>) -> Result<(), AllocError>
-        requires { self.old.number < length self.old.nodes.items }
+        requires { self.old.number < length self.old.nodes }
         ensures { IfOk result (λ _. model self.new ≡ sealed (model self.old) piece.now) }
     {
         let block = self.block(piece.start())?;
-        let node = &mut self.nodes[self.number as usize];
-        set_block(&mut node.text, block);
-        node.span.end = piece.end() as usize;
+        self.nodes.set_block(self.number, block);
+        self.nodes.set_end(self.number, piece.end() as usize);
         Ok(())
     }
 
     fn seal_root(&mut self) -> Result<(), AllocError>
-        requires { self.old.number < length self.old.nodes.items }
-        ensures { IfOk result (λ _. self.new.nodes.items ≡ alter self.old.number (seal_root self.old.semicolon (self.old.gap)) self.old.nodes.items) }
+        requires { self.old.number < length self.old.nodes }
+        ensures { IfOk result (λ _. self.new.nodes ≡ alter self.old.number (seal_root self.old.semicolon (self.old.gap)) self.old.nodes) }
     {
         let block = self.block(end_of(0, self.texts.sheet.as_str()))?;
-        set_block(&mut self.nodes[self.number as usize].text, block);
+        self.nodes.set_block(self.number, block);
         Ok(())
     }
 
@@ -236,7 +240,8 @@ impl<'t> Parser<'t> {
     }
 
     fn close_block(&mut self, piece: &Piece<'t>) -> Result<(), AllocError>
-        requires { IsReady (model self.old) }
+        requires ready { IsReady (model self.old) }
+        requires small { IsSmall (model self.old) 67108864 }
         ensures { IfOk result (λ _. model self.new ≡ next (model self.old) piece.now closes) }
     {
         self.give_back()?;
@@ -249,7 +254,7 @@ impl<'t> Parser<'t> {
 impl<'t> Parser<'t> {
     fn take(&mut self, piece: Piece<'t>, step: Step) -> Result<(), AllocError>
         requires ready { IsReady (model self.old) }
-        requires small { length self.old.nodes.items < 4294967296 }
+        requires small { length self.old.nodes + length self.old.run ≤ 67108864 }
         requires begun { step ≡ St.End → 0 < length self.old.run }
         requires comment { step ≡ St.Comment → shape piece ≡ S.comment }
         ensures { IfOk result (λ _. (t : Turn) → IsStep step t (model self.old).awaited piece.entry → model self.new ≡ next (model self.old) piece.entry t) }
@@ -271,7 +276,7 @@ impl<'t> Parser<'t> {
         requires ready { IsReady (model self.old) }
         requires small { IsSmall (model self.old) piece.at }
         requires longer { piece.at < end_of piece }
-        requires within { piece.at ≤ 67108864 }
+        requires within { end_of piece ≤ 67108864 }
         ensures ready { IfOk result (λ _. IsReady (model self.new)) }
         ensures small { IfOk result (λ _. IsSmall (model self.new) (end_of piece.entry)) }
         ensures goes_on { IfOk result (λ _. Advances (model self.old) piece.entry (model self.new)) }
@@ -288,8 +293,9 @@ impl<'t> Parser<'t> {
     }
 
     /// The nodes of the text whose pieces were read.
-    pub fn finish(mut self) -> Result<Vec<NodeAt>, Stop<Found>>
-        requires { IsReady (model self) }
+    pub fn finish(mut self) -> Result<NodeList, Stop<Found>>
+        requires ready { IsReady (model self) }
+        requires small { IsSmall (model self) 67108864 }
         ensures { IsEnd result (model self.entry) }
     {
         if let Some(fault) = fits_end(&self.awaited, &self.run, &self.frames) {

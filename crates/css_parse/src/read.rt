@@ -17,7 +17,7 @@ use css_text::lexer::{self, LexFault, Lexer};
 use css_text::stop::Stop;
 use css_text::text::Text;
 use css_tree::fault::SyntaxKind;
-use node_rows::node_list::NodeAt;
+use node_rows::node_list::NodeList;
 use std::alloc::Global;
 
 /// A piece of the lexer with its text.
@@ -46,7 +46,7 @@ fn lexical(fault: LexFault) -> Found
 }
 
 /// The nodes of a text, which begins with a byte order mark or doesn't, or its first fault.
-fn read_pieces(texts: Texts, src: &str, bom: bool) -> Result<Vec<NodeAt>, Stop<Found>>
+fn read_pieces(texts: Texts, src: &str, bom: bool) -> Result<NodeList, Stop<Found>>
     requires short { length src.now ≤ 67108864 }
     requires bom { bom ≡ begins_bom (chars src.now) }
     ensures { IsRead result (chars src.now) }
@@ -69,7 +69,7 @@ fn read_pieces(texts: Texts, src: &str, bom: bool) -> Result<Vec<NodeAt>, Stop<F
 }
 
 /// The nodes of a text in document order, or its first fault.
-pub fn read(alloc: Global, text: &Text) -> Result<Vec<NodeAt>, Stop<Found>>
+pub fn read(alloc: Global, text: &Text) -> Result<NodeList, Stop<Found>>
     ensures { IsNodes result text.now }
 {
     let texts = Texts {

@@ -7,7 +7,7 @@ use css_text::stop::{Stop, TextFault};
 use css_text::text::Text;
 use css_tree::fault::SyntaxKind;
 use css_tree::node::{Block, NodeText};
-use node_rows::node_list::NodeAt;
+use node_rows::node_list::NodeList;
 use std::alloc::{AllocError, Global};
 use std::test::Fail;
 
@@ -114,12 +114,17 @@ fn push_text(out: &mut String, text: &NodeText) -> Result<(), AllocError> {
 }
 
 // Each node: its parent, its span, its fields and raws.
-pub fn shown(alloc: Global, nodes: &[NodeAt]) -> Result<String, AllocError> {
+pub fn shown(alloc: Global, nodes: NodeList) -> Result<String, AllocError> {
     let mut out = String::new(alloc);
-    for node in nodes {
-        let place = format!(in alloc; "{} {}-{} ", node.parent, node.span.start, node.span.end)?;
-        out.push_str(place.as_str())?;
-        push_text(&mut out, &node.text)?;
+    let rows = nodes.into_rows();
+    rows.facts();
+    for n in 0..rows.len() as u32 {
+        let parent = rows.parent(n).unwrap_or(0);
+        if let Some(span) = rows.span(n) {
+            let place = format!(in alloc; "{parent} {}-{} ", span.start, span.end)?;
+            out.push_str(place.as_str())?;
+        }
+        push_text(&mut out, rows.text(n))?;
         out.push_str("\n")?;
     }
     Ok(out)
@@ -266,7 +271,7 @@ fn trees(rt: HostRuntime) -> Result<(), Fail> {
         assert!(rt; src.len() <= 100);
         let text = text_of(rt.alloc(), src).ok().ok_or("a text")?;
         let nodes = read(rt.alloc(), &text).ok().ok_or("nodes")?;
-        let got = shown(rt.alloc(), nodes.as_slice())?;
+        let got = shown(rt.alloc(), nodes)?;
         assert_eq!(rt; got.as_str(), want);
     }
     Ok(())

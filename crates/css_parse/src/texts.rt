@@ -1,5 +1,5 @@
 // The texts of runs of pieces.
-ghost use Rattle.std.specs.Prelude.{◌≡◌, ◌++◌, ◌≤◌, length, take, drop, IfOk};
+ghost use Rattle.std.specs.Prelude.{◌≡◌, ◌++◌, ◌≤◌, [], length, take, drop, IfOk};
 ghost use Rattle.std.specs.Str.{chars};
 ghost use Rattle.css_tree.specs.Pieces.{join, is_blank};
 ghost use Rattle.css_tree.specs.Clean.{clean_of};
@@ -27,6 +27,13 @@ pub fn end_of(start: u32, text: &str) -> u32 {
 }
 
 impl<'t> Texts<'t> {
+    /// The empty text.
+    pub fn empty(&self) -> Result<Txt, AllocError>
+        ensures { IfOk result (λ t. t ≡ []) }
+    {
+        self.at(0, "")
+    }
+
     /// A text that stands in the sheet at that byte.
     pub fn at(&self, start: u32, text: &str) -> Result<Txt, AllocError>
         ensures { IfOk result (λ t. t ≡ chars text.now) }
@@ -60,7 +67,7 @@ pub fn text_of(texts: Texts, pieces: &[Piece]) -> Result<Txt, AllocError>
     ensures { IfOk result (λ t. t ≡ join pieces.now) }
 {
     match pieces {
-        [] => Ok(Txt::empty()),
+        [] => texts.empty(),
         [first, rest @ ..] => {
             let text = texts.at(first.start(), first.text())?;
             with_pieces(texts.alloc, text, rest)

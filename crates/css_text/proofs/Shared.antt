@@ -7,13 +7,6 @@ use Rattle.std.specs.Str.{chars, IsUtf8}
 use Rattle.css_text.specs.Shared.{part, IsPart}
 use Rattle.css_text.proofs.BlockSteps.{take_split}
 
-part_nil : (start end : ℕ) → part [] start end ≡ []
-part_nil start end = ap (take (end - start)) (drop-nil start) ∙ take-nil (end - start)
-
--- no bytes spell no text
-pub chars_nil : (start end : ℕ) → chars (part [] start end) ≡ []
-chars_nil start end = ap chars (part_nil start end) ∙ chars-nil
-
 -- the whole of a text
 pub whole : (bs : List ℕ) (n : ℕ) → IsUtf8 bs → n ≡ length bs → IsPart bs 0 n
 whole bs n u e = subst (λ k. IsPart bs 0 k) (sym e) (record { order = zero-le; begins = IsCharBoundary-start bs u; ends = IsCharBoundary-end bs })

@@ -1,5 +1,5 @@
 // How far each form of piece reaches, on the bytes of a text.
-ghost use Rattle.std.specs.Prelude.{◌≡◌, ◌==◌, ◌&&◌, ◌+◌, ◌≤◌, ◌<◌, true, false, drop, length, slice_index, IfSome};
+ghost use Rattle.std.specs.Prelude.{◌≡◌, ◌==◌, ◌&&◌, ◌||◌, not, ◌+◌, ◌≤◌, ◌<◌, true, false, drop, length, slice_index, IfSome};
 ghost use Rattle.css_text.specs.Characters.{is_space as is_space_of, is_quote as is_quote_of, is_single as is_single_of, ends_word as ends_word_of};
 ghost use Rattle.css_text.specs.Forms.{unit_end as unit_end_of, shifted, space_len, unit_len, through as through_of, through_comment as through_comment_of, begins_url as begins_url_of};
 
@@ -30,35 +30,40 @@ pub fn is_single(b: u8) -> bool
     )
 }
 
-// White space, quotes, `{ } ( ) [ ] : ; ,` and `@`. The scan of words reads one entry a byte.
-static ENDS_WORD: [bool; 256] = [
-    false, false, false, false, false, false, false, false, false, true, true, false, true, true,
-    false, false, false, false, false, false, false, false, false, false, false, false, false,
-    false, false, false, false, false, true, false, true, false, false, false, false, true, true,
-    true, false, false, true, false, false, false, false, false, false, false, false, false, false,
-    false, false, false, true, true, false, false, false, false, true, false, false, false, false,
-    false, false, false, false, false, false, false, false, false, false, false, false, false,
-    false, false, false, false, false, false, false, false, false, true, false, true, false, false,
-    false, false, false, false, false, false, false, false, false, false, false, false, false,
-    false, false, false, false, false, false, false, false, false, false, false, false, false,
-    false, true, false, true, false, false, false, false, false, false, false, false, false, false,
-    false, false, false, false, false, false, false, false, false, false, false, false, false,
-    false, false, false, false, false, false, false, false, false, false, false, false, false,
-    false, false, false, false, false, false, false, false, false, false, false, false, false,
-    false, false, false, false, false, false, false, false, false, false, false, false, false,
-    false, false, false, false, false, false, false, false, false, false, false, false, false,
-    false, false, false, false, false, false, false, false, false, false, false, false, false,
-    false, false, false, false, false, false, false, false, false, false, false, false, false,
-    false, false, false, false, false, false, false, false, false, false, false, false, false,
-    false, false, false, false, false, false, false, false, false, false, false, false, false,
-    false, false, false,
+// All but white space, quotes, `{ } ( ) [ ] : ; ,`, `@`, `/` and the backslash. The scan of words reads one entry a byte.
+static PLAIN: [bool; 256] = [
+    true, true, true, true, true, true, true, true, true, false, false, true, false, false, true,
+    true, true, true, true, true, true, true, true, true, true, true, true, true, true, true, true,
+    true, false, true, false, true, true, true, true, false, false, false, true, true, false, true,
+    true, false, true, true, true, true, true, true, true, true, true, true, false, false, true,
+    true, true, true, false, true, true, true, true, true, true, true, true, true, true, true,
+    true, true, true, true, true, true, true, true, true, true, true, true, true, true, true,
+    false, false, false, true, true, true, true, true, true, true, true, true, true, true, true,
+    true, true, true, true, true, true, true, true, true, true, true, true, true, true, true, true,
+    true, false, true, false, true, true, true, true, true, true, true, true, true, true, true,
+    true, true, true, true, true, true, true, true, true, true, true, true, true, true, true, true,
+    true, true, true, true, true, true, true, true, true, true, true, true, true, true, true, true,
+    true, true, true, true, true, true, true, true, true, true, true, true, true, true, true, true,
+    true, true, true, true, true, true, true, true, true, true, true, true, true, true, true, true,
+    true, true, true, true, true, true, true, true, true, true, true, true, true, true, true, true,
+    true, true, true, true, true, true, true, true, true, true, true, true, true, true, true, true,
+    true, true, true, true, true, true, true, true, true, true, true, true, true, true, true, true,
+    true, true, true, true, true, true, true,
 ];
 
 /// White space, a quote, a Single or `@`: what no word unit begins with.
-pub fn ends_word(b: u8) -> bool
+#[tactic(auto, unfolding(crate::specs::Characters::ends_word))]
+fn ends_word(b: u8) -> bool
     ensures { result ≡ ends_word_of b }
 {
-    ENDS_WORD[b as usize]
+    is_space(b) || is_quote(b) || is_single(b) || b == b'@'
+}
+
+/// Whether the byte is a word unit wherever it stands, whatever follows: most are.
+fn is_plain(b: u8) -> bool
+    ensures { result ≡ (not (ends_word_of b || b == 47 || b == 92)) }
+{
+    PLAIN[b as usize]
 }
 
 /// The byte at the index, or 0 past the end.
@@ -114,10 +119,13 @@ pub fn units_end(s: &[u8], from: usize) -> usize
     let mut i = from;
     while i < s.len() {
         let b = s[i];
-        if ends_word(b) || begins_comment(s, i) {
+        if is_plain(b) {
+            i += 1;
+        } else if ends_word(b) || begins_comment(s, i) {
             return i;
+        } else {
+            i = unit_end(s, i);
         }
-        i = unit_end(s, i);
     }
     i
 }

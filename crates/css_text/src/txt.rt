@@ -1,5 +1,5 @@
 // The project's own text type.
-ghost use Rattle.std.specs.Prelude.{◌≡◌, ◌+◌, ◌++◌, [], true, length, IfOk, IfSome, encode_utf8_all};
+ghost use Rattle.std.specs.Prelude.{◌≡◌, ◌+◌, ◌++◌, true, length, IfOk, IfSome, encode_utf8_all};
 ghost use Rattle.std.specs.Str.{chars};
 ghost use Rattle.std.specs.String.{string_bytes};
 ghost use Rattle.css_text.specs.Shared.{part, IsPart};
@@ -13,7 +13,7 @@ use std::rc::Rc;
 /// A text is a part of a string that several texts may share, so that the texts of a sheet's nodes need no memory of their own.
 /// The string has at most 4,294,967,295 bytes: a longer one counts as want of memory.
 pub struct Txt {
-    whole: Option<Rc<String>>,
+    whole: Rc<String>,
     start: u32,
     end: u32,
 }
@@ -21,13 +21,15 @@ pub struct Txt {
 impl Model for Txt {
     ghost use Rattle.std.specs.Prelude.{ℕ, List};
     ghost use Rattle.std.specs.Str.{chars};
-    ghost use Rattle.css_text.specs.Shared.{bytes_of, part, IsPart};
+    ghost use Rattle.std.specs.String.{string_bytes};
+    ghost use Rattle.std.specs.Rc.{rc_value};
+    ghost use Rattle.css_text.specs.Shared.{part, IsPart};
 
     ghost Value = { List ℕ };
 
-    ghost view = { λ t. chars (part (bytes_of t.whole) t.start t.end) };
+    ghost view = { λ t. chars (part (string_bytes (rc_value t.whole)) t.start t.end) };
 
-    ghost invariant = { λ t. IsPart (bytes_of t.whole) t.start t.end };
+    ghost invariant = { λ t. IsPart (string_bytes (rc_value t.whole)) t.start t.end };
 }
 
 impl Drop for Txt {
@@ -72,17 +74,6 @@ fn copy_of_both(alloc: Global, first: &str, second: &str) -> Result<Txt, AllocEr
 }
 
 impl Txt {
-    /// The empty text.
-    pub fn empty() -> Txt
-        ensures { result ≡ [] }
-    {
-        Txt {
-            whole: None,
-            start: 0,
-            end: 0,
-        }
-    }
-
     /// A copy of the text. Its only error is want of memory.
     pub fn new(alloc: Global, s: &str) -> Result<Txt, AllocError>
         ensures { IfOk result (λ t. t ≡ chars s.now) }
@@ -97,12 +88,9 @@ impl Txt {
         let Ok(end) = u32::try_from(text.len()) else {
             return Err(AllocError);
         };
-        if end == 0 {
-            return Ok(Txt::empty());
-        }
         match Rc::new(alloc, text) {
             Ok(whole) => Ok(Txt {
-                whole: Some(whole),
+                whole,
                 start: 0,
                 end,
             }),
@@ -126,17 +114,14 @@ impl Txt {
     pub fn shared(&self, alloc: Global, at: u32, s: &str) -> Result<Txt, AllocError>
         ensures { IfOk result (λ t. t ≡ chars s.now) }
     {
-        let (Some(whole), Some(end)) = (&self.whole, end_of(at, s)) else {
-            return Txt::new(alloc, s);
-        };
-        if !has_at(whole.as_str(), at, end, s) {
-            return Txt::new(alloc, s);
+        match end_of(at, s) {
+            Some(end) if has_at(self.whole.as_str(), at, end, s) => Ok(Txt {
+                whole: self.whole.clone()?,
+                start: at,
+                end,
+            }),
+            _ => Txt::new(alloc, s),
         }
-        Ok(Txt {
-            whole: self.whole.clone()?,
-            start: at,
-            end,
-        })
     }
 
     /// This text with `s` behind it: a part of the same string where `s` stands behind it there, else a copy of both. Its only
@@ -144,8 +129,8 @@ impl Txt {
     pub fn followed_by(mut self, alloc: Global, s: &str) -> Result<Txt, AllocError>
         ensures { IfOk result (λ t. t ≡ self ++ chars s.now) }
     {
-        match (&self.whole, end_of(self.end, s)) {
-            (Some(whole), Some(end)) if has_at(whole.as_str(), self.end, end, s) => {
+        match end_of(self.end, s) {
+            Some(end) if has_at(self.whole.as_str(), self.end, end, s) => {
                 self.end = end;
                 Ok(self)
             }
@@ -158,10 +143,7 @@ impl Txt {
         ensures bytes { result.now ≡ encode_utf8_all self.now }
         ensures characters { chars result.now ≡ self.now }
     {
-        match &self.whole {
-            None => "",
-            Some(whole) => &whole.as_str()[self.start as usize..self.end as usize],
-        }
+        &self.whole.as_str()[self.start as usize..self.end as usize]
     }
 }
 

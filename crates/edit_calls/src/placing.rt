@@ -81,7 +81,7 @@ fn count(work: &Work, container: NodeId) -> u32
 fn place_of_child(work: &Work, container: NodeId, child: NodeId) -> u32
     requires { parent_of work.now.nodes child ≡ Some container }
     ensures value { result ≡ place_of work.now.nodes container child }
-    ensures few { result < 33554433 }
+    ensures few { result < 67108865 }
 {
     work.facts();
     match work.place(child) {

@@ -9,17 +9,13 @@ use Rattle.std.proofs.Math.ListN.{get_or-append}
 use Rattle.std.proofs.Math.Seq.{get_or-append_seam}
 use Rattle.node_rows.specs.declared.node_list.NodeAt.{NodeAt}
 use Rattle.node_rows.specs.Nodes.{Node, node_at, no_node, new_node, parent_of, children_of, linked, with_children}
-use Rattle.node_rows.specs.NodeList.{no_entry, entry_at, path_from, are_ordered, is_document_order, parents_in, children_from, children_in, parent_in, nodes_from, nodes_of}
+use Rattle.node_rows.specs.NodeList.{no_entry, entry_at, path_from, are_ordered, is_document_order, parents_in, children_from, children_in, parent_in, nodes_from, nodes_of, Earlier}
 use Rattle.node_rows.specs.Appended.{added, appended, IsAppendable}
 use Rattle.node_rows.proofs.Climb.{or_cases, same_from_eqb}
 use Rattle.node_rows.proofs.Edits.{Relinked, Relinked-writes}
 use Rattle.node_rows.proofs.Fields.{field_kept}
 use Rattle.node_rows.proofs.Join.{node-same}
 use Rattle.node_rows.proofs.Levels.{Each}
-
--- the parent of each node but the first is an earlier one
-abbrev pub Earlier : List NodeAt → Type 0
-Earlier es = (k : ℕ) → 0 < k → k < length es → (entry_at es k).parent < k
 
 each_member : (P : ℕ → Type 0) (q : ℕ) (path : List ℕ) → Each P path → list_any (eqb q) path ≡ true → P q
 each_member P q [] a h = absurd (false≢true h)
@@ -222,7 +218,7 @@ pub next-earlier : (es rest all : List NodeAt) (e : NodeAt) → es ++ e ∷ rest
 next-earlier es rest all e h o =
     Earlier-front (es ++ e ∷ []) rest (subst Earlier (sym h ∙ sym (append_assoc es (e ∷ []) rest)) (order-earlier all o))
 
-pub next-appendable : (es rest all : List NodeAt) (e : NodeAt) → es ++ e ∷ rest ≡ all → is_document_order (parents_in all) ≡ true → length all ≤ 33554433 → IsAppendable (nodes_of es) e
+pub next-appendable : (es rest all : List NodeAt) (e : NodeAt) → es ++ e ∷ rest ≡ all → is_document_order (parents_in all) ≡ true → length all ≤ 67108865 → IsAppendable (nodes_of es) e
 next-appendable es rest all e h o few = record {
   few = omega (arith, nodes_of-length es, ap length h, length-append es (e ∷ rest));
   earlier = λ b. let i = parent-earlier es e (next-earlier es rest all e h o) (omega (arith, nodes_of-length es)) in omega (arith, nodes_of-length es);

@@ -13,7 +13,7 @@ use Rattle.node_rows.proofs.Fields.{field_kept, field_other, field_same}
 use Rattle.node_rows.proofs.Climb.{Rooted, top, under, chain, chain-fits, reaches-chain, rooted, or_false, path-chain}
 
 -- the nodes are sound where each is rooted
-pub IsSound-from_rooted : (ns : List Node) → length ns ≤ 33554433 → parent_of ns 0 ≡ None → ((n p : ℕ) → parent_of ns n ≡ Some p → p < length ns) → ((n p : ℕ) → count_by (nat_eq n) (children_of ns p) ≡ cond (is_number (parent_of ns n) p) 1 0) → ((n : ℕ) → n < length ns → Rooted ns n) → IsSound ns
+pub IsSound-from_rooted : (ns : List Node) → length ns ≤ 67108865 → parent_of ns 0 ≡ None → ((n p : ℕ) → parent_of ns n ≡ Some p → p < length ns) → ((n p : ℕ) → count_by (nat_eq n) (children_of ns p) ≡ cond (is_number (parent_of ns n) p) 1 0) → ((n : ℕ) → n < length ns → Rooted ns n) → IsSound ns
 IsSound-from_rooted ns few root below listed r = record {
   few = few;
   root = root;
@@ -157,7 +157,7 @@ pushed_root ns x h s n (inl b) = Rooted-same ns (ns ++ x ∷ []) h (rooted ns s 
 pushed_root ns x h s n (inr b) = top (h n ∙ ap (λ y. y.parent) (get_or_past ns n no_node b))
 
 -- one more loose node without children keeps the nodes sound, though the walks may be longer by one
-pub IsSound-pushed : (ns : List Node) (x : Node) → x.parent ≡ None → x.children ≡ [] → length ns < 33554433 → IsSound ns → IsSound (ns ++ x ∷ [])
+pub IsSound-pushed : (ns : List Node) (x : Node) → x.parent ≡ None → x.children ≡ [] → length ns < 67108865 → IsSound ns → IsSound (ns ++ x ∷ [])
 IsSound-pushed ns x loose empty room s =
     let ms = ns ++ x ∷ [] in
     let l : length ms ≡ length ns + 1 = length-append ns (x ∷ []) ∙ omega arith in

@@ -1,5 +1,6 @@
 -- The finger stays at its place where the children of its parent stay.
 use Rattle.std.proofs.Common.{◌≡◌, ℕ, zero, suc, ◌<◌, length, remove, ◌+◌, ◌-◌, arith, List, [], ◌∷◌, ◌++◌, map, Option, Some, None, Bool, refl, ap, sym, ◌∙◌, subst, append-nil, append_assoc, slice_get}
+use Rattle.css_text.specs.declared.lexer.Span.{Span}
 use Rattle.css_tree.specs.declared.node.NodeText.{NodeText}
 use Rattle.node_rows.specs.declared.finger.Finger.{Finger}
 use Rattle.node_rows.specs.declared.growth.NewNode.{NewNode}
@@ -8,6 +9,7 @@ use Rattle.node_rows.specs.Nodes.{Node, parent_of, children_of, place_of, before
 use Rattle.node_rows.specs.Sound.{IsSound}
 use Rattle.node_rows.specs.Fingers.{IsFinger}
 use Rattle.node_rows.specs.Marks.{with_mark}
+use Rattle.node_rows.specs.Ends.{with_span}
 use Rattle.node_rows.proofs.Behind.{place_is, child_parent}
 use Rattle.node_rows.proofs.Edits.{Relinked, Relinked-writes, field_pushed, listed_once, parent-inside}
 use Rattle.node_rows.proofs.Fields.{field_kept}
@@ -23,6 +25,9 @@ IsFinger-dirty ns n d o f = IsFinger-kept ns (with_mark ns n d) o (field_kept (�
 
 pub IsFinger-text : (ns : List Node) (n : ℕ) (t : NodeText) (o : Option Finger) → IsFinger ns o → IsFinger (with_text ns n t) o
 IsFinger-text ns n t o f = IsFinger-kept ns (with_text ns n t) o (field_kept (λ x. x.children) ns n _ refl) f
+
+pub IsFinger-span : (ns : List Node) (n : ℕ) (s : Option Span) (o : Option Finger) → IsFinger ns o → IsFinger (with_span ns n s) o
+IsFinger-span ns n s o f = IsFinger-kept ns (with_span ns n s) o (field_kept (λ x. x.children) ns n _ refl) f
 
 pub IsFinger-pushed : (ns : List Node) (x : Node) (o : Option Finger) → x.children ≡ [] → IsFinger ns o → IsFinger (ns ++ x ∷ []) o
 IsFinger-pushed ns x o e f = IsFinger-kept ns (ns ++ x ∷ []) o (field_pushed (λ y. y.children) ns x e) f

@@ -6,7 +6,7 @@ use Rattle.node_rows.specs.Shown.{shown_rows, IsLinked}
 use Rattle.node_rows.specs.Growth.{made, row_of}
 use Rattle.node_rows.proofs.Pushed.{shown-pushed, IsLinked-pushed}
 
-pub rows-grown : (xs : List NewNode) (rs : List Row) → IsLinked rs → length rs + length xs ≤ 33554433 → IsLinked (rs ++ map row_of xs) × (shown_rows (rs ++ map row_of xs) ≡ shown_rows rs ++ map made xs)
+pub rows-grown : (xs : List NewNode) (rs : List Row) → IsLinked rs → length rs + length xs ≤ 67108865 → IsLinked (rs ++ map row_of xs) × (shown_rows (rs ++ map row_of xs) ≡ shown_rows rs ++ map made xs)
 rows-grown [] rs k few = (subst IsLinked (sym (append-nil rs)) k, ap shown_rows (append-nil rs) ∙ sym (append-nil (shown_rows rs)))
 rows-grown (x ∷ xs) rs k few =
     let one : List Row = rs ++ row_of x ∷ [] in

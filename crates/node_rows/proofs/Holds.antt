@@ -20,7 +20,7 @@ chain-off (top {n} e) k b f = rw (ne_eqb k n (λ i. omega arith)) refl
 chain-off (under {n} {p} e r) k b f = rw (ne_eqb k n (λ i. omega arith)) (chain-off r k (f n p e) f)
 
 -- a new node isn't above another
-pub apart-pushed : (ns : List Node) (x : Node) → x.parent ≡ None → x.children ≡ [] → length ns < 33554433 → IsSound ns → (p : ℕ) → p < length ns → holds (ns ++ x ∷ []) (length ns) p ≡ false
+pub apart-pushed : (ns : List Node) (x : Node) → x.parent ≡ None → x.children ≡ [] → length ns < 67108865 → IsSound ns → (p : ℕ) → p < length ns → holds (ns ++ x ∷ []) (length ns) p ≡ false
 apart-pushed ns x loose empty few s p b =
     let ms = ns ++ x ∷ [] in
     let t = IsSound-pushed ns x loose empty few s in

@@ -27,7 +27,7 @@ module _ (rs : List Row) (k : IsLinked rs) (p n : ℕ) (wp : p < length (shown_r
   fits : length (kids rs p) ≤ length (kids rs p)
   fits = omega arith
 
-  pub last_few : (row_at rs p).count < 33554433
+  pub last_few : (row_at rs p).count < 67108865
   last_few =
       let h = short_kids rs p (length (kids rs p)) n k inside node_inside nz loose apart fits in
       omega (arith, (k.joined p inside).1, k.sound.few, length-shown rs)

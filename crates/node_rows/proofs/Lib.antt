@@ -24,3 +24,4 @@ pub mod Kept
 pub mod Grown
 pub mod Below
 pub mod Fingers
+pub mod Entries

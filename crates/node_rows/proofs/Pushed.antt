@@ -84,7 +84,7 @@ module _ (rs : List Row) (k : IsLinked rs) (text : NodeText) (span : Option Span
       let e : p ≡ length rs = omega (arith, length-append rs (new_row text span ∷ [])) in
       rw (e, row_last rs (new_row text span)) (joined_on grown (new_row text span) [] (along_none (next grown) (length grown)) (refl, refl) refl)
 
-  pub IsLinked-pushed : length rs < 33554433 → IsLinked grown
+  pub IsLinked-pushed : length rs < 67108865 → IsLinked grown
   IsLinked-pushed few = record {
     sound = subst IsSound (sym shown-pushed) (IsSound-pushed (shown_rows rs) (new_node text span) refl refl (omega (arith, length-shown rs)) k.sound);
     joined = λ p h. joined_each p h (cases_lt p (length rs));

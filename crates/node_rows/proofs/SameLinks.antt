@@ -1,11 +1,13 @@
 -- Nodes with the same parents and children have the same paths, trees and numbers.
 use Rattle.std.proofs.Common.{◌≡◌, ℕ, zero, suc, ◌+◌, List, [], ◌∷◌, ◌++◌, Bool, length, Option, Some, None, refl, ap, sym, ◌∙◌, eqb, cond, drop, length-set}
 use Rattle.std.specs.List.{list_any, position_or_len}
+use Rattle.css_text.specs.declared.lexer.Span.{Span}
 use Rattle.css_tree.specs.declared.node.NodeText.{NodeText}
 use Rattle.node_rows.specs.Nodes.{Node, parent_of, children_of, text_of, span_of, place_of, up, path, holds, siblings, siblings_in, with_text}
 use Rattle.node_rows.specs.Sound.{IsSound}
 use Rattle.node_rows.specs.NumberTrees.{NumberTrees, no_trees, tree, trees_by, levels, number_trees, numbers, numbers_below, plain}
 use Rattle.node_rows.specs.Marks.{with_mark}
+use Rattle.node_rows.specs.Ends.{with_span}
 use Rattle.node_rows.specs.Beyond.{beyond_on, beyond, behind, IsNext}
 use Rattle.node_rows.proofs.Climb.{rooted}
 use Rattle.node_rows.proofs.Edits.{IsSound-from_rooted, Rooted-same}
@@ -43,6 +45,13 @@ SameTexts-marked ns ms m d h = record {
 
 pub SameLinks-text : (ns : List Node) (n : ℕ) (t : NodeText) → SameLinks ns (with_text ns n t)
 SameLinks-text ns n t = record {
+  same_length = length-set _ _ _;
+  parents = field_kept (λ x. x.parent) ns n _ refl;
+  lists = field_kept (λ x. x.children) ns n _ refl;
+}
+
+pub SameLinks-span : (ns : List Node) (n : ℕ) (o : Option Span) → SameLinks ns (with_span ns n o)
+SameLinks-span ns n o = record {
   same_length = length-set _ _ _;
   parents = field_kept (λ x. x.parent) ns n _ refl;
   lists = field_kept (λ x. x.children) ns n _ refl;

@@ -2,6 +2,7 @@
 use Rattle.std.proofs.Common.{◌≡◌, ℕ, zero, suc, ◌<◌, List, ◌∷◌, Bool, length, Option, Some, None, refl, ap, sym, ◌∙◌, subst, set, length-set, inl, inr}
 use Rattle.std.proofs.lemmas.Bool.{cases_eq}
 use Rattle.std.proofs.lemmas.List.{ext_get_or}
+use Rattle.css_text.specs.declared.lexer.Span.{Span}
 use Rattle.css_tree.specs.declared.node.NodeText.{NodeText}
 use Rattle.node_rows.specs.declared.rows.Row.{Row}
 use Rattle.node_rows.specs.Nodes.{Node, node_at, no_node, parent_of, children_of, with_text}
@@ -9,16 +10,16 @@ use Rattle.node_rows.specs.Sound.{IsSound}
 use Rattle.node_rows.specs.Segments.{along, Segment}
 use Rattle.node_rows.specs.Shown.{row_at, next, prev, shown_rows, IsJoined, IsLinked}
 use Rattle.node_rows.specs.Marks.{with_mark}
+use Rattle.node_rows.specs.Ends.{with_span}
 use Rattle.node_rows.proofs.Fields.{field_kept, field_same, field_other}
 use Rattle.node_rows.proofs.Join.{length-shown, shown-at, kids, node-same}
 use Rattle.node_rows.proofs.Layers.{row_kept, row_same, row_other}
 use Rattle.node_rows.proofs.Pushed.{all_of}
-use Rattle.node_rows.proofs.SameLinks.{SameLinks, SameLinks-self, SameLinks-marked, SameLinks-text, IsSound-same}
+use Rattle.node_rows.proofs.SameLinks.{SameLinks, SameLinks-self, SameLinks-marked, SameLinks-text, SameLinks-span, IsSound-same}
 use Rattle.node_rows.proofs.Segs.{segment-same}
 
 -- the two rows have the same links
 pub record SameRow (r x : Row) : Type 0 where
-  pub span : x.span ≡ r.span
   pub parent : x.parent ≡ r.parent
   pub first : x.first ≡ r.first
   pub last : x.last ≡ r.last
@@ -59,8 +60,8 @@ module _ (rs : List Row) (n : ℕ) (x : Row) (b : n < length rs) (h : SameRow (r
         row_kept (λ r. r.count) rs n x h.count q ∙ j.1,
       )
 
-  -- y is the node at n with x's text and mark
-  module _ (y : Node) (text : x.text ≡ y.text) (dirty : x.dirty ≡ y.dirty) (span : y.span ≡ (node_at (shown_rows rs) n).span) (parent : y.parent ≡ parent_of (shown_rows rs) n) (list : y.children ≡ children_of (shown_rows rs) n) where
+  -- y is the node at n with x's text, span and mark
+  module _ (y : Node) (text : x.text ≡ y.text) (dirty : x.dirty ≡ y.dirty) (span : x.span ≡ y.span) (parent : y.parent ≡ parent_of (shown_rows rs) n) (list : y.children ≡ children_of (shown_rows rs) n) where
     node_written : (m : ℕ) → m < length rs → node_at (shown_rows (set rs n x)) m ≡ node_at (set (shown_rows rs) n y) m
     node_written m w =
         let ns = shown_rows rs in
@@ -70,7 +71,7 @@ module _ (rs : List Row) (n : ℕ) (x : Row) (b : n < length rs) (h : SameRow (r
         let bn : n < length ns = rw (length-shown rs) b in
         node-same _ _
         (ap (λ z. z.text) shows ∙ field_written (λ r. r.text) (λ z. z.text) rs ns n m x y b bn (ap (λ z. z.text) (sym showed)) text)
-        (ap (λ z. z.span) shows ∙ field_written (λ r. r.span) (λ z. z.span) rs ns n m x y b bn (ap (λ z. z.span) (sym showed)) (h.span ∙ (ap (λ z. z.span) (sym here) ∙ sym span)))
+        (ap (λ z. z.span) shows ∙ field_written (λ r. r.span) (λ z. z.span) rs ns n m x y b bn (ap (λ z. z.span) (sym showed)) span)
         (ap (λ z. z.parent) shows ∙ field_written (λ r. r.parent) (λ z. z.parent) rs ns n m x y b bn (ap (λ z. z.parent) (sym showed)) (h.parent ∙ (ap (λ z. z.parent) (sym here) ∙ sym parent)))
         (ap (λ z. z.children) shows ∙ (kids_kept m ∙ (ap (λ z. z.children) (sym showed) ∙ sym (field_kept (λ z. z.children) ns n y list m))))
         (ap (λ z. z.dirty) shows ∙ field_written (λ r. r.dirty) (λ z. z.dirty) rs ns n m x y b bn (ap (λ z. z.dirty) (sym showed)) dirty)
@@ -94,26 +95,41 @@ abbrev pub text_row : Row → NodeText → Row
 text_row r t = record r { text = t }
 
 same_dirty : (r : Row) (d : Bool) → SameRow r (dirty_row r d)
-same_dirty r d = record { span = refl; parent = refl; first = refl; last = refl; before = refl; after = refl; count = refl }
+same_dirty r d = record { parent = refl; first = refl; last = refl; before = refl; after = refl; count = refl }
+
+abbrev pub span_row : Row → Option Span → Row
+span_row r o = record r { span = o }
+
+same_span : (r : Row) (o : Option Span) → SameRow r (span_row r o)
+same_span r o = record { parent = refl; first = refl; last = refl; before = refl; after = refl; count = refl }
 
 same_text : (r : Row) (t : NodeText) → SameRow r (text_row r t)
-same_text r t = record { span = refl; parent = refl; first = refl; last = refl; before = refl; after = refl; count = refl }
+same_text r t = record { parent = refl; first = refl; last = refl; before = refl; after = refl; count = refl }
 
 module _ (rs : List Row) (n : ℕ) (b : n < length rs) where
   pub shown-dirty : (d : Bool) → shown_rows (set rs n (dirty_row (row_at rs n) d)) ≡ with_mark (shown_rows rs) n d
   shown-dirty d =
-      shown-written rs n (dirty_row (row_at rs n) d) b (same_dirty (row_at rs n) d) (record (node_at (shown_rows rs) n) { dirty = d }) (ap (λ z. z.text) (sym (shown-at rs n b))) refl refl refl refl
+      shown-written rs n (dirty_row (row_at rs n) d) b (same_dirty (row_at rs n) d) (record (node_at (shown_rows rs) n) { dirty = d }) (ap (λ z. z.text) (sym (shown-at rs n b))) refl (ap (λ z. z.span) (sym (shown-at rs n b))) refl refl
 
   pub IsLinked-dirty : (d : Bool) → IsLinked rs → IsLinked (set rs n (dirty_row (row_at rs n) d))
   IsLinked-dirty d k =
-      IsLinked-written rs n (dirty_row (row_at rs n) d) b (same_dirty (row_at rs n) d) (record (node_at (shown_rows rs) n) { dirty = d }) (ap (λ z. z.text) (sym (shown-at rs n b))) refl refl refl refl
+      IsLinked-written rs n (dirty_row (row_at rs n) d) b (same_dirty (row_at rs n) d) (record (node_at (shown_rows rs) n) { dirty = d }) (ap (λ z. z.text) (sym (shown-at rs n b))) refl (ap (λ z. z.span) (sym (shown-at rs n b))) refl refl
       (SameLinks-marked (shown_rows rs) (shown_rows rs) n d (SameLinks-self (shown_rows rs))) k
 
   pub shown-text : (t : NodeText) → shown_rows (set rs n (text_row (row_at rs n) t)) ≡ with_text (shown_rows rs) n t
   shown-text t =
-      shown-written rs n (text_row (row_at rs n) t) b (same_text (row_at rs n) t) (record (node_at (shown_rows rs) n) { text = t }) refl (ap (λ z. z.dirty) (sym (shown-at rs n b))) refl refl refl
+      shown-written rs n (text_row (row_at rs n) t) b (same_text (row_at rs n) t) (record (node_at (shown_rows rs) n) { text = t }) refl (ap (λ z. z.dirty) (sym (shown-at rs n b))) (ap (λ z. z.span) (sym (shown-at rs n b))) refl refl
 
   pub IsLinked-text : (t : NodeText) → IsLinked rs → IsLinked (set rs n (text_row (row_at rs n) t))
   IsLinked-text t k =
-      IsLinked-written rs n (text_row (row_at rs n) t) b (same_text (row_at rs n) t) (record (node_at (shown_rows rs) n) { text = t }) refl (ap (λ z. z.dirty) (sym (shown-at rs n b))) refl refl refl
+      IsLinked-written rs n (text_row (row_at rs n) t) b (same_text (row_at rs n) t) (record (node_at (shown_rows rs) n) { text = t }) refl (ap (λ z. z.dirty) (sym (shown-at rs n b))) (ap (λ z. z.span) (sym (shown-at rs n b))) refl refl
       (SameLinks-text (shown_rows rs) n t) k
+
+  pub shown-span : (o : Option Span) → shown_rows (set rs n (span_row (row_at rs n) o)) ≡ with_span (shown_rows rs) n o
+  shown-span o =
+      shown-written rs n (span_row (row_at rs n) o) b (same_span (row_at rs n) o) (record (node_at (shown_rows rs) n) { span = o }) (ap (λ z. z.text) (sym (shown-at rs n b))) (ap (λ z. z.dirty) (sym (shown-at rs n b))) refl refl refl
+
+  pub IsLinked-span : (o : Option Span) → IsLinked rs → IsLinked (set rs n (span_row (row_at rs n) o))
+  IsLinked-span o k =
+      IsLinked-written rs n (span_row (row_at rs n) o) b (same_span (row_at rs n) o) (record (node_at (shown_rows rs) n) { span = o }) (ap (λ z. z.text) (sym (shown-at rs n b))) (ap (λ z. z.dirty) (sym (shown-at rs n b))) refl refl refl
+      (SameLinks-span (shown_rows rs) n o) k

@@ -16,5 +16,5 @@ appended ns e = appended_to (length ns) ns e
 
 -- there is room, and the parent is an earlier node unless the node comes first
 pub record IsAppendable (ns : List Node) (e : NodeAt) : Type 0 where
-  pub few : length ns < 33554433
+  pub few : length ns < 67108865
   pub earlier : 0 < length ns → e.parent < length ns

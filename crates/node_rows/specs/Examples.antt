@@ -1,12 +1,16 @@
 -- Small forests: the root 0 with the children 1 and 3, and 2 below 1.
 use Rattle.std.specs.Prelude.{◌≡◌, ℕ, List, [], ◌∷◌, Bool, true, false, map, Some, None}
-use Rattle.css_tree.specs.declared.node.NodeText.TheVariants.{Root, Rule}
+use Rattle.css_tree.specs.declared.node.Block.{Block}
+use Rattle.css_tree.specs.declared.node.NodeText.{NodeText}
+use Rattle.css_tree.specs.declared.node.NodeText.TheVariants.{Root, Rule, Comment}
 use Rattle.node_rows.specs.declared.node_list.NodeAt.{NodeAt}
 use Rattle.node_rows.specs.Nodes.{Node, parent_of, children_of, depth_of, place_of, next_sibling_of, previous_sibling_of, linked, unlinked}
 use Rattle.node_rows.specs.NumberTrees.{numbers_below}
 use Rattle.node_rows.specs.Marks.{with_mark, mark, dirtied}
 use Rattle.node_rows.specs.Beyond.{behind}
 use Rattle.node_rows.specs.NodeList.{is_document_order, children_in, nodes_of}
+use Rattle.node_rows.specs.Ends.{with_block, with_entry_end}
+use Rattle.node_rows.specs.Entries.{entries_of}
 
 abbrev pub rule_below : ℕ → NodeAt
 rule_below p = record { parent = p; text = Rule None (record { source = []; clean = [] }) [] (record { semicolon = true; after = None }); span = record { start = 0; end = 0 } }
@@ -72,3 +76,24 @@ Dirtied = marks_in (dirtied clean_forest 1) ≡ false ∷ true ∷ true ∷ fals
 
 abbrev pub Behind : Type 0
 Behind = (behind forest 0 0 ≡ 1 ∷ 2 ∷ 3 ∷ []) × (behind forest 0 2 ≡ 3 ∷ []) × (behind forest 1 1 ≡ 2 ∷ []) × (behind forest 1 2 ≡ [])
+
+abbrev pub closed : Block
+closed = record { semicolon = false; after = Some [] }
+
+abbrev pub closed_rule : NodeText
+closed_rule = Rule None (record { source = []; clean = [] }) [] closed
+
+abbrev pub note : NodeText
+note = Comment None [] [] []
+
+-- a rule has an end, and a comment has none
+abbrev pub Blocks : Type 0
+Blocks = (with_block (rule_below 0).text closed ≡ closed_rule) × (with_block note closed ≡ note)
+
+-- the entry 1 of two once it ends before the byte 4
+abbrev pub Ends : Type 0
+Ends = with_entry_end (root ∷ rule_below 0 ∷ []) 1 4 ≡ root ∷ record (rule_below 0) { span = record { start = 0; end = 4 } } ∷ []
+
+-- the nodes of a list give it back
+abbrev pub Entries : Type 0
+Entries = entries_of (nodes_of entries) ≡ entries

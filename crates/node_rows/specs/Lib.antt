@@ -12,3 +12,5 @@ pub mod Beyond
 pub mod WrittenTexts
 pub mod Growth
 pub mod Fingers
+pub mod Ends
+pub mod Entries

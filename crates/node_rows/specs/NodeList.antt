@@ -1,5 +1,5 @@
 -- Lists of nodes in document order, and the nodes of a forest that they give.
-use Rattle.std.specs.Prelude.{ℕ, zero, suc, ◌+◌, ◌&&◌, ◌==◌, List, [], ◌∷◌, Bool, true, nat_eq, map, drop, Option, Some, None, slice_index_or, if◌then◌else◌}
+use Rattle.std.specs.Prelude.{ℕ, zero, suc, ◌+◌, ◌<◌, ◌&&◌, ◌==◌, List, [], ◌∷◌, Bool, true, nat_eq, map, drop, length, Option, Some, None, slice_index_or, if◌then◌else◌}
 use Rattle.std.specs.List.{list_any}
 use Rattle.css_tree.specs.declared.node.NodeText.TheVariants.{Comment}
 use Rattle.node_rows.specs.declared.node_list.NodeAt.{NodeAt}
@@ -60,3 +60,7 @@ nodes_from all n (e ∷ es) = record { text = e.text; span = Some e.span; parent
 
 abbrev pub nodes_of : List NodeAt → List Node
 nodes_of es = nodes_from es 0 es
+
+-- the parent of each node but the first is an earlier one
+abbrev pub Earlier : List NodeAt → Type 0
+Earlier es = (k : ℕ) → 0 < k → k < length es → (entry_at es k).parent < k

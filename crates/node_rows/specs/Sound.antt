@@ -14,7 +14,7 @@ is_number (Some q) p = nat_eq q p
 
 -- A node is listed once by its parent and by no other, and no node stands below itself. The root has no parent.
 pub record IsSound (ns : List Node) : Type 0 where
-  pub few : length ns ≤ 33554433
+  pub few : length ns ≤ 67108865
   pub root : parent_of ns 0 ≡ None
   pub below : (n p : ℕ) → parent_of ns n ≡ Some p → p < length ns
   pub listed : (n p : ℕ) → count_by (nat_eq n) (children_of ns p) ≡ (if is_number (parent_of ns n) p then 1 else 0)

@@ -39,7 +39,7 @@ impl Rows {
     /// More nodes, each loose and dirty, numbered in their order. An error is want of memory, and leaves the rows as they
     /// were.
     pub fn add_all(&mut self, alloc: Global, nodes: Vec<NewNode>) -> Result<(), AllocError>
-        requires { length self.old + length nodes.items ≤ 33554433 }
+        requires { length self.old + length nodes.items ≤ 67108865 }
         ensures { MatchResult result (λ _. self.new ≡ self.old ++ map made nodes.items) (λ _. self.new ≡ self.old) }
     {
         let mut rows = rows_of(alloc, nodes)?;

@@ -1,5 +1,5 @@
 // What the definitions give on small lists of nodes. The functions ensure it and do nothing.
-ghost use Rattle.node_rows.specs.Examples.{Order, WrongOrder, Children, Numbers, Depths, NextSibling, PreviousSibling, Places, Taken, PutIn, Marked, Dirtied, Behind};
+ghost use Rattle.node_rows.specs.Examples.{Order, WrongOrder, Children, Numbers, Depths, NextSibling, PreviousSibling, Places, Taken, PutIn, Marked, Dirtied, Behind, Blocks, Ends, Entries};
 
 /// The examples beside the definitions.
 pub fn examples()
@@ -20,4 +20,11 @@ pub fn change_examples()
     ensures marked { Marked }
     ensures dirtied { Dirtied }
     ensures behind { Behind }
+{}
+
+/// The examples of lists of nodes that are being read.
+pub fn list_examples()
+    ensures blocks { Blocks }
+    ensures ends { Ends }
+    ensures entries { Entries }
 {}

@@ -2,6 +2,7 @@
 #![tactic(auto)]
 
 pub mod changes;
+mod ends;
 pub mod finger;
 pub mod growth;
 pub mod laws;

@@ -166,7 +166,7 @@ fn join(rows: &mut Vec<Row>, p: u32, n: u32, before: Option<u32>, after: Option<
     requires node { n < length rows.old.items }
     requires before_in { IsWithin rows.old.items before }
     requires after_in { IsWithin rows.old.items after }
-    requires few { (row_at rows.old.items p).count < 33554433 }
+    requires few { (row_at rows.old.items p).count < 67108865 }
     ensures { rows.new.items ≡ joined_in rows.old.items p n before after }
 {
     put(rows, n, p, before, after);

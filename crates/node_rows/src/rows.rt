@@ -1,5 +1,5 @@
 // The rows of a forest, by node number. Siblings are linked both ways.
-ghost use Rattle.std.specs.Prelude.{◌≡◌, ◌<◌, ◌≤◌, ◌++◌, ◌∷◌, [], length, slice_get, true, IfOk, OnOk, MatchResult};
+ghost use Rattle.std.specs.Prelude.{◌≡◌, ◌<◌, ◌≤◌, ◌++◌, ◌∷◌, [], length, slice_get, true, IfOk, MatchResult};
 ghost use Rattle.node_rows.specs.Nodes.{Node, new_node, text_of, span_of, parent_of, children_of, is_dirty, next_sibling_of, previous_sibling_of};
 ghost use Rattle.node_rows.specs.Sound.{IsSound};
 ghost use Rattle.node_rows.specs.NodeList.{nodes_of, is_document_order, parents_in};
@@ -149,7 +149,7 @@ impl Rows {
 
     /// One more node, loose and dirty, and its number. An error is want of memory, and leaves the rows as they were.
     pub fn add(&mut self, text: NodeText, span: Option<Span>) -> Result<u32, AllocError>
-        requires { length self.old < 33554433 }
+        requires { length self.old < 67108865 }
         ensures { MatchResult result (λ n. (n ≡ length self.old) × (self.new ≡ self.old ++ new_node text span ∷ [])) (λ _. self.new ≡ self.old) }
     {
         let number = self.items.len() as u32;
@@ -168,9 +168,10 @@ impl Rows {
     }
 
     // One more node as the last child of its parent; the first node is the root.
-    fn append(&mut self, node: NodeAt) -> Result<(), AllocError>
+    // An error is want of memory, and leaves the rows as they were.
+    pub(crate) fn append(&mut self, node: NodeAt) -> Result<(), AllocError>
         requires { IsAppendable self.old node }
-        ensures { OnOk result (self.new ≡ appended self.old node) }
+        ensures { MatchResult result (λ _. self.new ≡ appended self.old node) (λ _. self.new ≡ self.old) }
     {
         self.facts();
         let NodeAt { parent, text, span } = node;
@@ -184,7 +185,7 @@ impl Rows {
 
     /// The nodes of a list in document order. The only error is want of memory.
     pub fn from_nodes(alloc: Global, nodes: Vec<NodeAt>) -> Result<Rows, AllocError>
-        requires few { length nodes.items ≤ 33554433 }
+        requires few { length nodes.items ≤ 67108865 }
         requires order { is_document_order (parents_in nodes.items) ≡ true }
         ensures { IfOk result (λ rows. rows ≡ nodes_of nodes.items) }
     {

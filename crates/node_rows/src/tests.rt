@@ -1,6 +1,6 @@
 // The forest 0(1(2), 3), whose nodes are moved, marked and changed.
-use crate::laws::{change_examples, examples};
-use crate::node_list::NodeAt;
+use crate::laws::{change_examples, examples, list_examples};
+use crate::node_list::{NodeAt, NodeList};
 use crate::rows::Rows;
 use crate::texts::{Written, has_field, has_raw};
 use css_text::lexer::Span;
@@ -218,6 +218,7 @@ fn changes(rt: HostRuntime) -> Result<(), Fail> {
 fn laws_run(_rt: HostRuntime) {
     examples();
     change_examples();
+    list_examples();
 }
 
 #[test]
@@ -235,5 +236,50 @@ fn builds(rt: HostRuntime) -> Result<(), Fail> {
     assert_eq!(rt; node, 1);
     rows.link_last(0, node);
     expect_children(&rt, &rows, 0, &[1]);
+    Ok(())
+}
+
+// The root with the rules 1 and 3, and 2 in 1, as they are read.
+fn listed(alloc: Global) -> Result<NodeList, AllocError> {
+    let span = Span { start: 0, end: 1 };
+    let mut list = NodeList::new(alloc, rule(alloc, "")?, span)?;
+    for (parent, selector) in [(0, "a"), (1, "b"), (0, "c")] {
+        if list.len() < 10 && (parent as usize) < list.len() {
+            let text = rule(alloc, selector)?;
+            list.push(NodeAt { parent, text, span })?;
+        }
+    }
+    Ok(list)
+}
+
+#[test]
+fn reads_a_list(rt: HostRuntime) -> Result<(), Fail> {
+    let alloc = rt.alloc();
+    let mut list = listed(alloc)?;
+    assert_eq!(rt; list.len(), 4);
+    if list.len() == 4 {
+        list.set_end(1, 9);
+        let after = Some(Txt::new(alloc, "/")?);
+        list.set_block(
+            1,
+            Block {
+                semicolon: true,
+                after,
+            },
+        );
+    }
+    let rows = list.into_rows();
+    expect_children(&rt, &rows, 0, &[1, 3]);
+    expect_children(&rt, &rows, 1, &[2]);
+    for (n, selector, closed, end) in [(0, "", false, 1), (1, "a", true, 9), (2, "b", false, 1)] {
+        if (n as usize) < rows.len() {
+            assert_eq!(rt;
+                has_field(alloc, rows.text(n), Field::Selector, selector)?,
+                true
+            );
+            assert_eq!(rt; has_raw(rows.text(n), Raw::After, "/"), closed);
+            assert_eq!(rt; rows.span(n).map_or(0, |span| span.end), end);
+        }
+    }
     Ok(())
 }

@@ -157,7 +157,7 @@ module _ (text : List ℕ) (ss : List (Option Seat)) where
   planned (Remove n ∷ es) ns k h s = absurd h
 
 -- how many nodes a plan leaves
-pub plan-few : (es : List Edit) (ns : List Node) → IsPlan ns es → length ns ≤ 33554433 → length ns + length (news es) ≤ 33554433
+pub plan-few : (es : List Edit) (ns : List Node) → IsPlan ns es → length ns ≤ 67108865 → length ns + length (news es) ≤ 67108865
 plan-few [] ns h b = omega arith
 plan-few (New n t span ∷ es) ns h b =
     let l : length (ns ++ new_node t span ∷ []) ≡ length ns + 1 = length-append ns (new_node t span ∷ []) in

@@ -10,9 +10,9 @@ use Rattle.css_tree.specs.declared.node.Kind.TheVariants as K
 use Rattle.css_tree.specs.Parts.{kind_of, block_of}
 use Rattle.node_rows.specs.declared.node_list.NodeAt.{NodeAt}
 use Rattle.node_store.specs.Forest.{IsSpanOf}
-use Rattle.node_rows.specs.NodeList.{no_entry, entry_at, path_from, are_ordered, is_document_order, path_after, last_path, parents_in}
+use Rattle.node_rows.specs.NodeList.{no_entry, entry_at, path_from, are_ordered, is_document_order, path_after, last_path, parents_in, Earlier}
 use Rattle.node_store.specs.NodeList.{IsNodeList}
-use Rattle.node_rows.proofs.Built.{Earlier, order-earlier}
+use Rattle.node_rows.proofs.Built.{order-earlier}
 
 or_right : (a b : Bool) → b ≡ true → (a || b) ≡ true
 or_right true b h = refl

@@ -186,7 +186,7 @@ module _ (text : List ℕ) (ns : List Node) (ss : List (Option Seat)) (k : IsSto
     lists : (n : ℕ) → children_of more n ≡ children_of ns n
     lists = field_pushed (λ y. y.children) ns x empty
 
-    forest_more : length ns < 33554433 → kind_of x.text ≢ K.Root → IfSome x.span (IsSpanOf text) → IsForest (bare text more)
+    forest_more : length ns < 67108865 → kind_of x.text ≢ K.Root → IfSome x.span (IsSpanOf text) → IsForest (bare text more)
     forest_more few kind span = record {
       sound = IsSound-pushed ns x loose empty few k.forest.sound;
       some = omega (arith, wide);

@@ -1,11 +1,12 @@
 // The store of a style sheet's nodes.
-ghost use Rattle.std.specs.Prelude.{◌≡◌, ℕ, ◌<◌, ◌≤◌, length, slice_get, Option, Some, None, Ok, Err, IfOk, MatchResult, MatchOption};
+ghost use Rattle.std.specs.Prelude.{◌≡◌, ℕ, ◌<◌, ◌≤◌, [], length, slice_get, Option, Some, None, Ok, Err, IfOk, MatchResult, MatchOption};
 ghost use Rattle.std.specs.Str.{chars};
 ghost use Rattle.css_tree.specs.Parts.{kind_of, field_of, source_of, important_of, raw_of};
 ghost use Rattle.node_rows.specs.Nodes.{Node, text_of, parent_of, place_of, holds, next_sibling_of, previous_sibling_of};
 ghost use Rattle.std.specs.Option.{option_map};
 ghost use Rattle.node_store.specs.Forest.{Forest, IsForest, read, read_some, bom_of, has_block};
 ghost use Rattle.node_store.specs.NodeList.{IsNodeList, forest_of};
+ghost use Rattle.node_store.specs.Seats.{bare, IsStored};
 
 use crate::fault::TreeFault;
 use crate::id::NodeId;
@@ -15,7 +16,7 @@ use crate::seat::Seat;
 use css_text::lexer::Span;
 use css_text::text::Text;
 use css_tree::node::{Field, Kind, NodeText, Raw};
-use node_rows::node_list::NodeAt;
+use node_rows::node_list::{NodeAt, NodeList};
 use node_rows::rows::Rows;
 use std::alloc::{AllocError, Global};
 use std::marker::Model;
@@ -64,14 +65,32 @@ impl Work {
     {
         let rows = Rows::from_nodes(alloc, nodes)?;
         rows.facts();
-        Ok(Work {
+        Ok(Work::over(alloc, text, rows))
+    }
+
+    /// The work of nodes in document order that were kept as rows from the start, each of which is dirty. It takes no memory.
+    pub fn from_list(alloc: Global, text: Text, nodes: NodeList) -> Work
+        requires { IsNodeList text nodes }
+        ensures { result ≡ forest_of text nodes }
+    {
+        let rows = nodes.into_rows();
+        rows.facts();
+        Work::over(alloc, text, rows)
+    }
+
+    // The work of these nodes, with no cursor and an empty log.
+    fn over(alloc: Global, text: Text, rows: Rows) -> Work
+        requires { IsStored text rows [] }
+        ensures { result ≡ bare text rows }
+    {
+        Work {
             alloc,
             text,
             rows,
             seats: Vec::new(alloc),
             log: Vec::new(alloc),
             room: None,
-        })
+        }
     }
 
     /// Nothing: a caller learns by it what is true of every work.

@@ -5,7 +5,6 @@ use Rattle.std.proofs.Math.ListN.{get_or-map}
 use Rattle.std.proofs.lemmas.Bool.{and_parts}
 use Rattle.node_rows.specs.Nodes.{Node}
 use Rattle.node_store.specs.declared.item.Edit.{Edit}
-use Rattle.node_store.specs.declared.item.Item.{Item}
 use Rattle.node_store.specs.declared.item.Item.TheVariants as I
 use Rattle.node_store.specs.Forest.{Forest, Place, cursor_at, unreserved}
 use Rattle.node_store.specs.Edits.{can, all_can, apply, apply_all, moved_place, moved_all, edited, edited_all}

@@ -1,14 +1,12 @@
 -- What a visit tells.
-use Rattle.std.proofs.Common.{◌≡◌, ℕ, ◌+◌, ◌-◌, ◌<◌, List, [], ◌∷◌, ◌++◌, length, slice_set, Bool, true, false, if◌then◌else◌, Option, Some, None, Ok, Err, refl, sym, ap, ◌∙◌, inr, arith, length-append, append-nil}
+use Rattle.std.proofs.Common.{◌≡◌, ℕ, ◌+◌, ◌-◌, List, [], ◌∷◌, ◌++◌, length, slice_set, Bool, true, false, if◌then◌else◌, Option, Some, None, Ok, Err, refl, sym, ap, ◌∙◌, inr, arith, length-append, append-nil}
 use Rattle.std.proofs.lemmas.List.{length-map, set_at}
 use Rattle.node_store.specs.declared.item.Edit.{Edit}
-use Rattle.node_store.specs.declared.item.Item.TheVariants as I
 use Rattle.node_store.specs.declared.item.Moment.{Moment}
 use Rattle.node_store.specs.Forest.{Forest}
 use Rattle.plugin_api.specs.declared.visitor.Told.{Told}
 use Rattle.plugin_api.specs.declared.visitor.Duty.{Duty}
 use Rattle.plugin_api.specs.declared.visitor.VisitFault.TheVariants.{Plugin, Memory}
-use Rattle.plugin_api.specs.Calls.{Met}
 use Rattle.plugin_api.specs.Edited.{Edited}
 use Rattle.std.specs.declared.alloc.AllocError.{AllocError}
 use Rattle.plugin_api.specs.Visit.{Answer, Tells, Dutiful, Visited}
@@ -27,10 +25,10 @@ edit_count before after es h =
 pub counted : (calls pushed : List Told) (t t' : Told) (b : Bool) (place : ℕ) → b ≡ true → pushed ≡ (if b then calls ++ t ∷ [] else calls) → place ≡ length calls → slice_set pushed place t' ≡ calls ++ t' ∷ []
 counted calls pushed t t' b place h e p = rw (e, h) (set_at calls t [] t' place (sym p))
 
-pub recorded : {told told' : Option (List Told)} {said said' : List (List ℕ)} {duty duty' : Option Duty} {before after : Forest} {m : Moment} {r : Answer}
-    → Visited told told' said said' duty duty' before after m r
+pub recorded : {told told' : Option (List Told)} {said said' : List (List ℕ)} {duty duty' : Option Duty} {left left' : ℕ} {before after : Forest} {m : Moment} {r : Answer}
+    → Visited told told' said said' duty duty' left left' before after m r
     → (calls new : List Told) (at n : ℕ) → at ≡ length before.log → n ≡ length after.log → new ≡ calls ++ record { moment = m; at = at; edits = n - at } ∷ []
-    → Visited (Some calls) (Some new) said said' duty duty' before after m r
+    → Visited (Some calls) (Some new) said said' duty duty' left left' before after m r
 recorded {before = before} {after = after} {m = m} {r = r} v calls new at n a l e = record {
   edits = v.edits;
   edited = v.edited;
@@ -38,6 +36,7 @@ recorded {before = before} {after = after} {m = m} {r = r} v calls new at n a l 
   says = v.says;
   keeps = v.keeps;
   does = v.does;
+  leaves = v.leaves;
 }
 
 -- a call that changed nothing is made of no edits

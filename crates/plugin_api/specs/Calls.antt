@@ -8,13 +8,15 @@ use Rattle.plugin_api.specs.declared.visitor.Told.{Told}
 use Rattle.plugin_api.specs.declared.visitor.Duty.{Duty}
 use Rattle.plugin_api.specs.declared.visitor.VisitFault.TheVariants.{Plugin, Memory}
 use Rattle.plugin_api.specs.Edited.{Edited}
+use Rattle.plugin_api.specs.Open.{LeavesOpen}
 use Rattle.plugin_api.specs.Visit.{Answer, Dutiful}
 
 -- a call of a visitor, what it tells and its texts put aside
-pub record Met (duty : Option Duty) (before after : Forest) (m : Moment) (r : Answer) : Type 0 where
+pub record Met (duty : Option Duty) (left left' : ℕ) (before after : Forest) (m : Moment) (r : Answer) : Type 0 where
   pub edits : List Edit
   pub edited : Edited before after edits
   pub does : Dutiful duty before.nodes m edits r
+  pub leaves : LeavesOpen left left' before after r
 
 -- an action, and the texts of the faults that it answered
 pub record FnSeen (F : Type 0) : Type 0 where

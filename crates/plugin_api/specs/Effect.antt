@@ -1,13 +1,13 @@
 -- The edits that each duty asks for at a moment, from the forest before the call.
-use Rattle.std.specs.Prelude.{◌≡◌, ℕ, zero, suc, ◌+◌, Bool, true, false, not, ◌==◌, ◌&&◌, ◌||◌, nat_eq, nat_le, List, [], ◌∷◌, ◌++◌, Option, Some, None, if◌then◌else◌, length, filter, reverse, drop}
+use Rattle.std.specs.Prelude.{◌≡◌, ℕ, suc, Bool, true, false, not, ◌==◌, ◌&&◌, ◌||◌, nat_eq, nat_le, List, [], ◌∷◌, ◌++◌, Option, Some, None, if◌then◌else◌, length, filter, reverse, drop}
 use Rattle.std.specs.List.{list_any, flat_map}
 use Rattle.std.specs.Char.{to_ascii_lowercase}
 use Rattle.css_text.specs.declared.lexer.PieceKind.{PieceKind}
 use Rattle.css_text.specs.declared.lexer.PieceKind.TheVariants.{Word}
-use Rattle.css_text.specs.ValueParts.{ValueForm, plain, function, ValueParts, none, value, written, IsValue}
+use Rattle.css_text.specs.ValueParts.{plain, function, ValueParts, none, value, written, IsValue}
 use Rattle.css_tree.specs.declared.node.Field.TheVariants as F
 use Rattle.css_tree.specs.declared.node.NodeText.{NodeText}
-use Rattle.css_tree.specs.declared.node.NodeText.TheVariants.{Root, AtRule, Rule, Declaration, Comment}
+use Rattle.css_tree.specs.declared.node.NodeText.TheVariants.{AtRule, Rule, Declaration, Comment}
 use Rattle.node_rows.specs.Nodes.{Node, text_of, parent_of, children_of, place_of}
 use Rattle.node_store.specs.declared.item.Event.{Event}
 use Rattle.node_store.specs.declared.item.Event.TheVariants as E

@@ -1,4 +1,6 @@
 pub mod Edited
+pub mod Open
+pub mod Alone
 pub mod Effect
 pub mod Visit
 pub mod Calls

@@ -10,6 +10,7 @@ use Rattle.plugin_api.specs.declared.visitor.VisitFault.{VisitFault}
 use Rattle.plugin_api.specs.declared.visitor.VisitFault.TheVariants.{Plugin, Memory}
 use Rattle.plugin_api.specs.Edited.{Edited}
 use Rattle.plugin_api.specs.Effect.{IsEffect}
+use Rattle.plugin_api.specs.Open.{LeavesOpen}
 
 abbrev pub Answer : Type 0
 Answer = Result (Unit {0}) VisitFault
@@ -41,11 +42,13 @@ abbrev pub Dutiful : Option Duty → List Node → Moment → List Edit → Answ
 Dutiful None ns m es r = Unit {0}
 Dutiful (Some d) ns m es r = Does d ns m es r
 
--- A call of a visitor: what it tells, the texts of its faults, its duty and the forest, before and after.
-pub record Visited (told told' : Option (List Told)) (said said' : List (List ℕ)) (duty duty' : Option Duty) (before after : Forest) (m : Moment) (r : Answer) : Type 0 where
+-- A call of a visitor: what it tells, the texts of its faults, its duty, how many cursors it left open and the forest, before
+-- and after.
+pub record Visited (told told' : Option (List Told)) (said said' : List (List ℕ)) (duty duty' : Option Duty) (left left' : ℕ) (before after : Forest) (m : Moment) (r : Answer) : Type 0 where
   pub edits : List Edit
   pub edited : Edited before after edits
   pub tells : Tells told told' (record { moment = m; at = length before.log; edits = length edits }) r
   pub says : said' ≡ said_after said r
   pub keeps : duty' ≡ duty
   pub does : Dutiful duty before.nodes m edits r
+  pub leaves : LeavesOpen left left' before after r

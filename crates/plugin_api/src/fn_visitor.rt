@@ -19,12 +19,15 @@ pub trait Act: Drop {
     /// What it promises of its edits, if anything.
     ghost duty_of: { Self → Option Duty };
 
+    /// How many cursors its calls have left open.
+    ghost left_of: { Self → ℕ };
+
     /// A call on this forest at this moment may give this answer, and leave this forest and this action.
     ghost acts: { Self → Forest → Moment → Result (Unit {0}) VisitFault → Forest → Self → Type 0 };
 
     /// One call, which changes the tree by edit calls alone.
     fn act(&mut self, work: &mut Work, moment: Moment) -> Result<(), VisitFault>
-        ensures met { Met (duty_of self.old) work.old work.new moment result }
+        ensures met { Met (duty_of self.old) (left_of self.old) (left_of self.new) work.old work.new moment result }
         ensures kept { duty_of self.new ≡ duty_of self.old }
         ensures acts { acts self.old work.old moment result work.new self.new };
 }
@@ -83,8 +86,10 @@ impl<F: Act> Visitor for FnVisitor<F> {
 
     ghost duty = { λ v. F.duty_of v.call };
 
+    ghost left = { λ v. F.left_of v.call };
+
     fn visit(&mut self, work: &mut Work, moment: Moment) -> Result<(), VisitFault>
-        ensures visited { Visited None None self.old.said self.new.said (F.duty_of self.old.call) (F.duty_of self.new.call) work.old work.new moment result }
+        ensures visited { Visited None None self.old.said self.new.said (F.duty_of self.old.call) (F.duty_of self.new.call) (F.left_of self.old.call) (F.left_of self.new.call) work.old work.new moment result }
         ensures called { (answer : _) × F.acts self.old.call work.old moment answer work.new self.new.call × Answered answer result }
     {
         match self.call.act(work, moment) {

@@ -21,13 +21,13 @@ fn call_box(
     visitor: &mut Box<dyn Visitor>,
     moment: Moment,
 ) -> Result<(), VisitFault>
-    ensures { Visited (told visitor.old) (told visitor.new) (said visitor.old) (said visitor.new) (duty visitor.old) (duty visitor.new) work.old work.new moment result }
+    ensures { Visited (told visitor.old) (told visitor.new) (said visitor.old) (said visitor.new) (duty visitor.old) (duty visitor.new) (left visitor.old) (left visitor.new) work.old work.new moment result }
 {
     visitor.visit(work, moment)
 }
 
 fn call_one(work: &mut Work, hook: &mut Hook, moment: Moment) -> Result<(), VisitFault>
-    ensures { VisitedHook (hook_seen told said duty hook.old) (hook_seen told said duty hook.new) work.old work.new moment result }
+    ensures { VisitedHook (hook_seen told said duty left hook.old) (hook_seen told said duty left hook.new) work.old work.new moment result }
 {
     call_box(work, &mut hook.visitor, moment)
 }
@@ -39,7 +39,7 @@ fn call_in(
     moment: Moment,
 ) -> Result<(), VisitFault>
     requires { hook < length hooks.old.items }
-    ensures { VisitedIn (hooks_seen told said duty hooks.old.items) (hooks_seen told said duty hooks.new.items) hook work.old work.new moment result }
+    ensures { VisitedIn (hooks_seen told said duty left hooks.old.items) (hooks_seen told said duty left hooks.new.items) hook work.old work.new moment result }
 {
     call_one(work, &mut hooks[hook], moment)
 }
@@ -52,8 +52,8 @@ pub fn call_hook(
     hook: usize,
     moment: Moment,
 ) -> Result<(), VisitFault>
-    requires { IsSome (hook_at (shelf_seen told said duty shelf.old.items) plugin hook) }
-    ensures { VisitedAt (shelf_seen told said duty shelf.old.items) (shelf_seen told said duty shelf.new.items) plugin hook work.old work.new moment result }
+    requires { IsSome (hook_at (shelf_seen told said duty left shelf.old.items) plugin hook) }
+    ensures { VisitedAt (shelf_seen told said duty left shelf.old.items) (shelf_seen told said duty left shelf.new.items) plugin hook work.old work.new moment result }
 {
     call_in(work, &mut shelf[plugin].hooks, hook, moment)
 }

@@ -49,6 +49,8 @@ impl<V: Visitor> Visitor for Recorder<V> {
 
     ghost duty = { λ r. V.duty r.inner };
 
+    ghost left = { λ r. V.left r.inner };
+
     fn visit(&mut self, work: &mut Work, moment: Moment) -> Result<(), VisitFault> {
         let at = work.log().len();
         let place = self.calls.len();

@@ -30,6 +30,8 @@ impl Act for Nothing {
 
     ghost duty_of = { λ _. Some Quiet };
 
+    ghost left_of = { λ _. 0 };
+
     ghost acts = { λ f s m r t g. t ≡ s };
 
     fn act(&mut self, _work: &mut Work, _moment: Moment) -> Result<(), VisitFault> {
@@ -47,6 +49,8 @@ impl Act for Fails {
     ghost use Rattle.std.specs.Prelude.{◌≡◌, None};
 
     ghost duty_of = { λ _. None };
+
+    ghost left_of = { λ _. 0 };
 
     ghost acts = { λ f s m r t g. t ≡ s };
 
@@ -150,7 +154,7 @@ fn a_shelf_calls_the_hook_that_is_asked_for(rt: HostRuntime) -> Result<(), Fail>
     assert!(rt; first.is_ok());
     let second = call_hook(&mut work, &mut shelf, 0, 1, root_at(Event::Once));
     assert!(rt; is_no(second));
-    let told = shelf[0].hooks[0].visitor.calls();
-    assert_eq!(rt; told.map_or(0, |calls| calls.len()), 1);
+    let hook = shelf[0].hooks.first().ok_or("a hook")?;
+    assert_eq!(rt; hook.visitor.calls().map_or(0, |calls| calls.len()), 1);
     Ok(())
 }

@@ -52,9 +52,12 @@ pub trait Visitor: Drop {
     /// What it promises of its edits, if anything.
     ghost duty: { Self → Option Duty };
 
+    /// How many cursors its calls have left open.
+    ghost left: { Self → ℕ };
+
     /// One call. The tree changes by the edits that it logs, and by nothing else.
     fn visit(&mut self, work: &mut Work, moment: Moment) -> Result<(), VisitFault>
-        ensures visited { Visited (told self.old) (told self.new) (said self.old) (said self.new) (duty self.old) (duty self.new) work.old work.new moment result };
+        ensures visited { Visited (told self.old) (told self.new) (said self.old) (said self.new) (duty self.old) (duty self.new) (left self.old) (left self.new) work.old work.new moment result };
 
     /// The calls so far, where the visitor tells them.
     fn calls(&self) -> Option<&[Told]>

@@ -2,8 +2,8 @@
 use Rattle.std.specs.Prelude.{List}
 use Rattle.node_store.specs.declared.item.Edit.{Edit}
 use Rattle.node_store.specs.Forest.{Forest}
-use Rattle.plugin_api.specs.Edited.{Edited}
+use Rattle.plugin_api.specs.Alone.{EditedAlone}
 
 -- it makes edits, and changes nothing else
 abbrev pub IsEdited : Forest → Forest → Type 0
-IsEdited before after = (edits : List Edit) × Edited before after edits
+IsEdited before after = (edits : List Edit) × EditedAlone before after edits

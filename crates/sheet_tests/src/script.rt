@@ -74,7 +74,7 @@ fn meet(
     call: u32,
     moment: Moment,
 ) -> Result<(), VisitFault>
-    ensures { Met None work.old work.new moment result }
+    ensures { Met None 0 0 work.old work.new moment result }
 {
     do_steps(alloc, work, steps, call, moment.node)
 }
@@ -85,7 +85,9 @@ impl Act for Script {
 
     ghost duty_of = { λ _. None };
 
-    ghost acts = { λ f s m r t g. Met None s t m r };
+    ghost left_of = { λ _. 0 };
+
+    ghost acts = { λ f s m r t g. Met None 0 0 s t m r };
 
     fn act(&mut self, work: &mut Work, moment: Moment) -> Result<(), VisitFault> {
         let call = self.calls;

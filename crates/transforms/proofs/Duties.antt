@@ -1,5 +1,5 @@
 -- A duty is met by its edits, or by a front of them before want of memory.
-use Rattle.std.proofs.Common.{◌≡◌, ℕ, List, [], ◌∷◌, true, Option, Some, Result, Ok, Err, ap, sym, ◌∙◌, subst}
+use Rattle.std.proofs.Common.{◌≡◌, ℕ, ◌+◌, List, [], ◌∷◌, true, Option, Some, Result, Ok, Err, ap, sym, ◌∙◌, subst}
 use Rattle.std.specs.Prelude.{filter, reverse, if◌then◌else◌, MatchResult}
 use Rattle.std.specs.List.{flat_map}
 use Rattle.std.specs.Result.{IsErrAnd}
@@ -27,12 +27,12 @@ use Rattle.transforms.specs.Reads.{selector_of, unnests}
 
 pub met-front : (d : Duty) (before after : Forest) (m : Moment) (es : List Edit) (r : Result (Unit {0}) AllocError) (s : Answer) → IsEffect d before.nodes m es
     → ((all : List Edit) → IsEffect d before.nodes m all → all ≡ es) → MakesFront before after es r
-    → MatchResult r (λ x. s ≡ Ok x) (λ e. IsErrAnd s (λ y. y ≡ Memory e)) → Met (Some d) before after m s
-met-front d before after m es (Ok x) (Ok y) effect one made t = record { edits = es; edited = made; does = effect }
+    → MatchResult r (λ x. s ≡ Ok x) (λ e. IsErrAnd s (λ y. y ≡ Memory e)) → Met (Some d) 0 0 before after m s
+met-front d before after m es (Ok x) (Ok y) effect one made t = record { edits = es; edited = made.edited; does = effect; leaves = ap (λ n. n + 0) made.total }
 met-front d before after m es (Ok x) (Err y) effect one made t = absurd cc
 met-front d before after m es (Err e) (Ok y) effect one made t = absurd t
 met-front d before after m es (Err e) (Err y) effect one made t =
-    subst (λ z. Met (Some d) before after m (Err z)) (sym t) (record { edits = made.0; edited = made.3; does = λ all h. (made.1, one all h ∙ made.2) })
+    subst (λ z. Met (Some d) 0 0 before after m (Err z)) (sym t) (record { edits = made.0; edited = made.3.edited; does = λ all h. (made.1, one all h ∙ made.2); leaves = tt })
 
 one_text : (s x y : List ℕ) → IsShort s x → IsShort s y → x ≡ y
 one_text s x y h g = h.text ∙ (ap (λ p. written (shortened p)) (one_value s h.parts g.parts h.are g.are) ∙ sym g.text)

@@ -22,9 +22,10 @@ use Rattle.node_store.specs.declared.item.Edit.TheVariants.{Set, Insert, Remove}
 use Rattle.node_store.specs.Forest.{Forest}
 use Rattle.node_store.specs.Edits.{changes, removed_from, apply, apply_all}
 use Rattle.node_store.proofs.Shapes.{SameLinks-then, SameButMarks-then, marked-same, dirtied-same, linked-texts, unlinked-texts}
-use Rattle.plugin_api.specs.Edited.{Edited}
+use Rattle.plugin_api.specs.Alone.{EditedAlone}
 use Rattle.plugin_api.specs.Effect.{changing, is_movable, own_selector, moved_out}
-use Rattle.plugin_api.proofs.EditedLemmas.{edited_unmade, apply_all-append, Edited-then}
+use Rattle.plugin_api.proofs.EditedLemmas.{apply_all-append}
+use Rattle.plugin_api.proofs.AloneLemmas.{alone_unmade, alone-then}
 use Rattle.transforms.specs.Fronts.{MakesFront}
 use Rattle.transforms.specs.Reads.{selector_of}
 use Rattle.transforms.proofs.Planned.{apart}
@@ -35,11 +36,11 @@ front-stopped a b es fs (Ok _) s m h k = absurd (true≢false h)
 front-stopped a b es fs (Err _) (Ok _) m h k = absurd (true≢false k)
 front-stopped a b es fs (Err _) (Err _) m h k = (m.0, m.1 ++ fs, ap (λ l. l ++ fs) m.2 ∙ append_assoc m.0 m.1 fs, m.3)
 
-pub front-then : (a b c : Forest) (es fs : List Edit) (r : Result (Unit {0}) AllocError) → Edited a b es → MakesFront b c fs r → MakesFront a c (es ++ fs) r
-front-then a b c es fs (Ok _) h m = Edited-then a b c es fs h m
-front-then a b c es fs (Err _) h m = (es ++ m.0, m.1, ap (λ l. es ++ l) m.2 ∙ sym (append_assoc es m.0 m.1), Edited-then a b c es m.0 h m.3)
+pub front-then : (a b c : Forest) (es fs : List Edit) (r : Result (Unit {0}) AllocError) → EditedAlone a b es → MakesFront b c fs r → MakesFront a c (es ++ fs) r
+front-then a b c es fs (Ok _) h m = alone-then a b c es fs h m
+front-then a b c es fs (Err _) h m = (es ++ m.0, m.1, ap (λ l. es ++ l) m.2 ∙ sym (append_assoc es m.0 m.1), alone-then a b c es m.0 h m.3)
 
-pub front-ok : (a b : Forest) (es : List Edit) (r : Result (Unit {0}) AllocError) → MakesFront a b es r → is_ok r ≡ true → Edited a b es
+pub front-ok : (a b : Forest) (es : List Edit) (r : Result (Unit {0}) AllocError) → MakesFront a b es r → is_ok r ≡ true → EditedAlone a b es
 front-ok a b es (Ok _) m h = m
 front-ok a b es (Err _) m h = absurd (false≢true h)
 
@@ -117,7 +118,7 @@ outs f rule p cs = flat_map (moved_out f.nodes rule p (selector_of (text_of f.no
 pub record Going (old now : Forest) (rule p : ℕ) (todo : List ℕ) : Type 0 where
   pub made : List Edit
   pub all : outs old rule p (filter (λ m. is_movable (text_of old.nodes m)) (children_of old.nodes rule)) ≡ made ++ outs old rule p todo
-  pub edited : Edited old now made
+  pub edited : EditedAlone old now made
   pub parent : parent_of now.nodes rule ≡ Some p
   pub place : place_of now.nodes p rule ≡ place_of old.nodes p rule
   pub text : text_of now.nodes rule ≡ text_of old.nodes rule
@@ -165,7 +166,7 @@ going-start old rule p s e =
     record {
       made = [];
       all = refl;
-      edited = edited_unmade old old refl;
+      edited = alone_unmade old old refl;
       parent = e;
       place = refl;
       text = refl;
@@ -210,15 +211,15 @@ module _ (old now : Forest) (rule p c : ℕ) (xs : List ℕ) (g : Going old now 
   wider : (m : ℕ) → 0 < count_by (eqb m) xs → 0 < count_by (eqb m) (xs ++ c ∷ [])
   wider m h = omega (arith, h, count-last c m xs)
 
-  pub going-next : (new : Forest) → IsSound now.nodes → Edited now new (out now rule p c) → Going old new rule p xs
+  pub going-next : (new : Forest) → IsSound now.nodes → EditedAlone now new (out now rule p c) → Going old new rule p xs
   unfolding out
   going-next new s h =
-      let k : Stays now.nodes new.nodes rule c p = subst (λ ms. Stays now.nodes ms rule c p) (sym h.nodes) (stays-out now.nodes rule c p (selector_of (text_of now.nodes rule)) s last-parent g.parent) in
+      let k : Stays now.nodes new.nodes rule c p = subst (λ ms. Stays now.nodes ms rule c p) (sym h.edited.nodes) (stays-out now.nodes rule c p (selector_of (text_of now.nodes rule)) s last-parent g.parent) in
       let d : rule ≢ c = apart now.nodes c rule s last-parent in
       record {
         made = g.made ++ out old rule p c;
         all = all-next ∙ sym (append_assoc g.made (out old rule p c) (outs old rule p xs));
-        edited = Edited-then old now new g.made (out old rule p c) g.edited (subst (Edited now new) out-now h);
+        edited = alone-then old now new g.made (out old rule p c) g.edited (subst (EditedAlone now new) out-now h);
         parent = k.parents rule d ∙ g.parent;
         place = k.place ∙ g.place;
         text = k.texts rule d ∙ g.text;
@@ -234,11 +235,11 @@ module _ (old now : Forest) (rule p c : ℕ) (xs : List ℕ) (g : Going old now 
       let f = front-stopped now new (out old rule p c) (outs old rule p xs) r s (subst (λ es. MakesFront now new es r) out-now h) a b in
       subst (λ es. MakesFront old new es s) (sym all-next) (front-then old now new g.made (out old rule p c ++ outs old rule p xs) s g.edited f)
 
-pub going-done : (old now : Forest) (rule p : ℕ) (todo : List ℕ) → Going old now rule p todo → todo ≡ [] → Edited old now (outs old rule p (filter (λ m. is_movable (text_of old.nodes m)) (children_of old.nodes rule)))
+pub going-done : (old now : Forest) (rule p : ℕ) (todo : List ℕ) → Going old now rule p todo → todo ≡ [] → EditedAlone old now (outs old rule p (filter (λ m. is_movable (text_of old.nodes m)) (children_of old.nodes rule)))
 unfolding outs
 going-done old now rule p todo g e =
     let whole = g.all ∙ (ap (λ l. g.made ++ flat_map (moved_out old.nodes rule p (selector_of (text_of old.nodes rule))) (reverse l)) e ∙ append-nil g.made) in
-    subst (Edited old now) (sym whole) g.edited
+    subst (EditedAlone old now) (sym whole) g.edited
 
 pub none_left : (xs : List ℕ) → length xs ≡ 0 → xs ≡ []
 none_left [] e = refl

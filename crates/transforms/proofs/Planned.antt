@@ -22,9 +22,9 @@ use Rattle.node_store.specs.Edits.{changes, is_loose, removed_from, apply_all}
 use Rattle.node_store.proofs.Shapes.{marked-same}
 use Rattle.edit_calls.specs.Plans.{plan, is_unknown, is_top, where_changing, setting, removing, without, beside, inserting_after}
 use Rattle.edit_calls.specs.Answers.{Makes, Answers}
-use Rattle.plugin_api.specs.Edited.{Edited}
+use Rattle.plugin_api.specs.Alone.{EditedAlone}
 use Rattle.plugin_api.specs.Effect.{changing}
-use Rattle.plugin_api.proofs.EditedLemmas.{edited_by, edited_unmade}
+use Rattle.plugin_api.proofs.AloneLemmas.{alone_by, alone_unmade}
 use Rattle.transforms.specs.Fronts.{MakesFront, IsUnrefused}
 
 -- a call whose plan isn't refused
@@ -33,8 +33,8 @@ unrefused-plan p es before after (Ok _) e a = tt
 unrefused-plan p es before after (Err (Memory _)) e a = tt
 unrefused-plan p es before after (Err (Fault f)) e a = absurd (let j : Ok es ≡ Err f = sym e ∙ a.0 in cc)
 
-made_as : (p : Result (List Edit) TreeFault) (es fs : List Edit) (before after : Forest) → p ≡ Ok es → p ≡ Ok fs → Makes before after fs → Edited before after es
-made_as p es fs before after e g m = let same : fs ≡ es = (let j : Ok fs ≡ Ok es = sym g ∙ e in cc) in subst (Edited before after) same (edited_by before after fs m.met m.made)
+made_as : (p : Result (List Edit) TreeFault) (es fs : List Edit) (before after : Forest) → p ≡ Ok es → p ≡ Ok fs → Makes before after fs → EditedAlone before after es
+made_as p es fs before after e g m = let same : fs ≡ es = (let j : Ok fs ≡ Ok es = sym g ∙ e in cc) in subst (EditedAlone before after) same (alone_by before after fs m.met m.made)
 
 pub front : (p : Result (List Edit) TreeFault) (es : List Edit) (before after : Forest) (r : Result (Unit {0}) (Stop TreeFault)) (s : Result (Unit {0}) AllocError) → p ≡ Ok es → Answers p before after r
     → MatchResult s (λ x. r ≡ Ok x) (λ e. r ≡ Err (Memory e)) → MakesFront before after es s
@@ -42,7 +42,7 @@ front p es before after (Ok _) (Ok _) e a h = made_as p es a.0 before after e a.
 front p es before after (Ok _) (Err _) e a h = absurd cc
 front p es before after (Err (Fault f)) s e a h = absurd (let j : Ok es ≡ Err f = sym e ∙ a.0 in cc)
 front p es before after (Err (Memory d)) (Ok _) e a h = absurd cc
-front p es before after (Err (Memory d)) (Err _) e a h = ([], es, refl, edited_unmade before after a.1)
+front p es before after (Err (Memory d)) (Err _) e a h = ([], es, refl, alone_unmade before after a.1)
 
 -- a test that doesn't hold
 skip : (b : Bool) (f : TreeFault) (rs : List (Bool × TreeFault)) (es : List Edit) → b ≡ false → plan ((b, f) ∷ rs) es ≡ plan rs es

@@ -6,12 +6,12 @@ use Rattle.css_text.specs.declared.stop.Stop.TheVariants.{Fault, Memory}
 use Rattle.node_store.specs.declared.fault.TreeFault.{TreeFault}
 use Rattle.node_store.specs.declared.item.Edit.{Edit}
 use Rattle.node_store.specs.Forest.{Forest}
-use Rattle.plugin_api.specs.Edited.{Edited}
+use Rattle.plugin_api.specs.Alone.{EditedAlone}
 
 -- All of the edits are made; before want of memory a front of them.
 abbrev pub MakesFront : Forest → Forest → List Edit → Result (Unit {0}) AllocError → Type 0
-MakesFront before after edits (Ok _) = Edited before after edits
-MakesFront before after edits (Err _) = (made : List Edit) × (rest : List Edit) × (edits ≡ made ++ rest) × Edited before after made
+MakesFront before after edits (Ok _) = EditedAlone before after edits
+MakesFront before after edits (Err _) = (made : List Edit) × (rest : List Edit) × (edits ≡ made ++ rest) × EditedAlone before after made
 
 -- an edit call that isn't refused
 abbrev pub IsUnrefused : Result (Unit {0}) (Stop TreeFault) → Type 0

@@ -11,10 +11,10 @@ use Rattle.transforms.specs.declared.shelf.Visitors.{Visitors}
 
 -- X and F are the type behind a box: the vtables, and the values of each.
 module _ {X : Type 0} {F : X → Type 0}
-    (told : DynBox X Global F → Option (List Told)) (said : DynBox X Global F → List (List ℕ)) (duty : DynBox X Global F → Option Duty) where
+    (told : DynBox X Global F → Option (List Told)) (said : DynBox X Global F → List (List ℕ)) (duty : DynBox X Global F → Option Duty) (left : DynBox X Global F → ℕ) where
   -- a hook without a filter
   abbrev pub unfiltered : Event → DynBox X Global F → HookSeen
-  unfiltered event b = record { event = event; filter = None; told = told b; said = said b; duty = duty b }
+  unfiltered event b = record { event = event; filter = None; told = told b; said = said b; duty = duty b; left = left b }
 
   -- the plugins in their order, with these visitors
   abbrev pub shipped_plugins : Visitors X F → List PluginSeen

@@ -37,7 +37,9 @@ impl Act for DropComment {
 
     ghost duty_of = { λ _. Some D.DropComment };
 
-    ghost acts = { λ f s m r t g. Met (Some D.DropComment) s t m r };
+    ghost left_of = { λ _. 0 };
+
+    ghost acts = { λ f s m r t g. Met (Some D.DropComment) 0 0 s t m r };
 
     fn act(&mut self, work: &mut Work, moment: Moment) -> Result<(), VisitFault> {
         drop_comment(work, moment)
@@ -51,7 +53,9 @@ impl Act for DropEmpty {
 
     ghost duty_of = { λ _. Some D.DropEmpty };
 
-    ghost acts = { λ f s m r t g. Met (Some D.DropEmpty) s t m r };
+    ghost left_of = { λ _. 0 };
+
+    ghost acts = { λ f s m r t g. Met (Some D.DropEmpty) 0 0 s t m r };
 
     fn act(&mut self, work: &mut Work, moment: Moment) -> Result<(), VisitFault> {
         drop_empty(work, moment)
@@ -65,7 +69,9 @@ impl Act for ShortHex {
 
     ghost duty_of = { λ _. Some D.ShortHex };
 
-    ghost acts = { λ f s m r t g. Met (Some D.ShortHex) s t m r };
+    ghost left_of = { λ _. 0 };
+
+    ghost acts = { λ f s m r t g. Met (Some D.ShortHex) 0 0 s t m r };
 
     fn act(&mut self, work: &mut Work, moment: Moment) -> Result<(), VisitFault> {
         short_hex(self.alloc, work, moment)
@@ -79,7 +85,9 @@ impl Act for Unnest {
 
     ghost duty_of = { λ _. Some D.Unnest };
 
-    ghost acts = { λ f s m r t g. Met (Some D.Unnest) s t m r };
+    ghost left_of = { λ _. 0 };
+
+    ghost acts = { λ f s m r t g. Met (Some D.Unnest) 0 0 s t m r };
 
     fn act(&mut self, work: &mut Work, moment: Moment) -> Result<(), VisitFault> {
         unnest(self.alloc, work, moment)

@@ -79,7 +79,7 @@ fn remove_if(work: &mut Work, wanted: bool, n: NodeId) -> Result<(), AllocError>
 /// Takes a comment out when it is entered, unless its text begins with `!` and nothing stands before that. Other nodes,
 /// and nodes without a parent, stay. The only error is want of memory, and then the tree is as it was.
 pub fn drop_comment(work: &mut Work, moment: Moment) -> Result<(), VisitFault>
-    ensures { Met (Some D.DropComment) work.old work.new moment result }
+    ensures { Met (Some D.DropComment) 0 0 work.old work.new moment result }
 {
     let Moment { event, node } = moment;
     let dropped = drops_comment(work, event, node);
@@ -89,7 +89,7 @@ pub fn drop_comment(work: &mut Work, moment: Moment) -> Result<(), VisitFault>
 /// Takes a rule, or an at-rule with a block, out when it is left without children; comments count as children. Nodes
 /// without a parent stay. The only error is want of memory, and then the tree is as it was.
 pub fn drop_empty(work: &mut Work, moment: Moment) -> Result<(), VisitFault>
-    ensures { Met (Some D.DropEmpty) work.old work.new moment result }
+    ensures { Met (Some D.DropEmpty) 0 0 work.old work.new moment result }
 {
     let Moment { event, node } = moment;
     let dropped = drops_empty(work, event, node);

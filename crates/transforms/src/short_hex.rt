@@ -151,7 +151,7 @@ fn short_value(
 /// case, with the first digit of each pair, at any depth of functions. It does so when the declaration is entered; other
 /// nodes, and nodes without a parent, stay. The only error is want of memory, and then the tree is as it was.
 pub fn short_hex(alloc: Global, work: &mut Work, moment: Moment) -> Result<(), VisitFault>
-    ensures { Met (Some D.ShortHex) work.old work.new moment result }
+    ensures { Met (Some D.ShortHex) 0 0 work.old work.new moment result }
 {
     let Moment { event, node } = moment;
     match short_value(alloc, work, event, node) {

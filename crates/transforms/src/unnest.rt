@@ -204,7 +204,7 @@ fn unnests(work: &Work, event: Event, node: NodeId) -> bool
 ///
 /// The only error is want of memory; then some of the children, the last ones, may be moved already.
 pub fn unnest(alloc: Global, work: &mut Work, moment: Moment) -> Result<(), VisitFault>
-    ensures { Met (Some D.Unnest) work.old work.new moment result }
+    ensures { Met (Some D.Unnest) 0 0 work.old work.new moment result }
 {
     let Moment { event, node } = moment;
     if !unnests(work, event, node) {

@@ -123,7 +123,7 @@ pushed_at (y ∷ ys) x zero h = refl
 pushed_at (y ∷ ys) x (suc m) h = pushed_at ys x m (omega arith)
 
 -- one more loose node
-pub changed_new : (ns : List Node) (t : NodeText) (span : Option Span) → IsSound ns → 0 < length ns → length ns < 33554433 → Changed ns (ns ++ new_node t span ∷ []) (λ m. false) (λ q k. k)
+pub changed_new : (ns : List Node) (t : NodeText) (span : Option Span) → IsSound ns → 0 < length ns → length ns < 67108865 → Changed ns (ns ++ new_node t span ∷ []) (λ m. false) (λ q k. k)
 changed_new ns t span s z few =
     let ms = ns ++ new_node t span ∷ [] in
     let parents : (m : ℕ) → parent_of ms m ≡ parent_of ns m = field_pushed (λ y. y.parent) ns (new_node t span) refl in

@@ -1,5 +1,5 @@
 -- A walk that goes on by a call.
-use Rattle.std.proofs.Common.{◌≡◌, ℕ, suc, zero, ◌+◌, List, [], ◌∷◌, Bool, true, false, length, Option, Some, None, refl, ap, sym, ◌∙◌, subst, map, arith, slice_get, slice_set, cond, ◌-◌, ◌≤◌}
+use Rattle.std.proofs.Common.{◌≡◌, ℕ, suc, zero, ◌+◌, List, [], ◌∷◌, Bool, true, false, length, Option, Some, None, refl, ap, sym, ◌∙◌, subst, map, arith, slice_get, slice_set, sum_by, Ok, Err, cond, ◌-◌, ◌≤◌}
 use Rattle.std.specs.Prelude.{nat_eq, nat_lt, ◌&&◌}
 use Rattle.std.proofs.lemmas.Bool.{and_parts, le-ltb}
 use Rattle.node_rows.specs.Nodes.{Node}
@@ -8,8 +8,12 @@ use Rattle.node_store.specs.declared.item.Moment.{Moment}
 use Rattle.node_store.specs.Forest.{Forest, Place, cursor_at}
 use Rattle.node_rows.specs.Nodes.{parent_of, place_of}
 use Rattle.node_store.specs.declared.item.Edit.TheVariants.{Set, SetRaw, New, Insert, Remove}
+use Rattle.std.proofs.lemmas.List.Sums.{sum_by-cons}
+use Rattle.plugin_api.specs.declared.visitor.VisitFault.TheVariants.{Plugin, Memory}
+use Rattle.plugin_api.specs.Open.{open_total, LeavesOpen}
 use Rattle.plugin_api.specs.Visit.{Answer}
-use Rattle.plugin_api.specs.Shelf.{HookSeen, PluginSeen, hooks_of, hook_at, VisitedAt}
+use Rattle.visitor_walk.specs.Called.{IsBack}
+use Rattle.plugin_api.specs.Shelf.{HookSeen, PluginSeen, left_total, hooks_of, hook_at, VisitedAt}
 use Rattle.plugin_api.proofs.ShelfLemmas.{get_other, get_same}
 use Rattle.node_store.specs.Edits.{moved, moved_from, can, all_can, apply, apply_all, moved_all}
 use Rattle.visitor_machine.specs.Machine.{Frame, State, edited, moved_frame}
@@ -132,6 +136,42 @@ names_same [] i p hs e = refl
 names_same (x ∷ ps) zero p hs e = let i : x ≡ p = cc in ap (λ (y : PluginSeen). y.name ∷ map (λ q. q.name) ps) (sym i)
 names_same (x ∷ ps) (suc i) p hs e = ap (λ l. x.name ∷ l) (names_same ps i p hs e)
 
+-- how many cursors are left open, where one hook is another
+hooks_left : (hs : List HookSeen) (j : ℕ) (w h : HookSeen) → slice_get hs j ≡ Some w → sum_by (λ x. x.left) (slice_set hs j h) + w.left ≡ sum_by (λ x. x.left) hs + h.left
+hooks_left [] j w h e = absurd cc
+hooks_left (x ∷ hs) zero w h e =
+    let i : x.left ≡ w.left = let s : x ≡ w = cc in ap (λ (y : HookSeen). y.left) s in
+    let a = sum_by-cons (λ (y : HookSeen). y.left) x hs in
+    let b = sum_by-cons (λ (y : HookSeen). y.left) h hs in
+    omega arith
+hooks_left (x ∷ hs) (suc j) w h e =
+    let i = hooks_left hs j w h e in
+    let a = sum_by-cons (λ (y : HookSeen). y.left) x hs in
+    let b = sum_by-cons (λ (y : HookSeen). y.left) x (slice_set hs j h) in
+    omega arith
+
+left_set : (ps : List PluginSeen) (i j : ℕ) (p : PluginSeen) (w h : HookSeen) → slice_get ps i ≡ Some p → slice_get p.hooks j ≡ Some w → left_total (slice_set ps i (record { name = p.name; hooks = slice_set p.hooks j h })) + w.left ≡ left_total ps + h.left
+left_set [] i j p w h e d = absurd cc
+left_set (x ∷ ps) zero j p w h e d =
+    let sums : PluginSeen → ℕ = λ q. sum_by (λ y. y.left) q.hooks in
+    let i : sums x ≡ sums p = let s : x ≡ p = cc in ap sums s in
+    let k : sums (record { name = p.name; hooks = slice_set p.hooks j h }) + w.left ≡ sums p + h.left = hooks_left p.hooks j w h d in
+    let a = sum_by-cons sums x ps in
+    let b = sum_by-cons sums (record { name = p.name; hooks = slice_set p.hooks j h }) ps in
+    omega arith
+left_set (x ∷ ps) (suc i) j p w h e d =
+    let sums : PluginSeen → ℕ = λ q. sum_by (λ y. y.left) q.hooks in
+    let k = left_set ps i j p w h e d in
+    let a = sum_by-cons sums x ps in
+    let b = sum_by-cons sums x (slice_set ps i (record { name = p.name; hooks = slice_set p.hooks j h })) in
+    omega arith
+
+-- a call that came back leaves as many more open as its visitor's count grew
+pub left_back : (a : Answer) (fault : Option (List ℕ)) (l m : ℕ) (f g : Forest) → IsBack a fault → LeavesOpen l m f g a → open_total g.cursors + l ≡ open_total f.cursors + m
+left_back (Ok u) fault l m f g b h = h
+left_back (Err (Plugin text)) fault l m f g b h = h
+left_back (Err (Memory e)) fault l m f g b h = absurd b
+
 -- what a call leaves of the shelf
 module _ {old new : List PluginSeen} {p h : ℕ} {f g : Forest} {m : Moment} {r : Answer} (v : VisitedAt old new p h f g m r) where
   set_to : new ≡ slice_set old p (record { name = v.was.name; hooks = slice_set v.was.hooks h v.visited.is })
@@ -145,6 +185,9 @@ module _ {old new : List PluginSeen} {p h : ℕ} {f g : Forest} {m : Moment} {r 
 
   pub hook_before : hook_at old p h ≡ Some v.visited.was
   hook_before = ap (λ o. slice_get (hooks_of o) h) v.at ∙ v.visited.at
+
+  pub left_now : left_total new + v.visited.was.left ≡ left_total old + v.visited.is.left
+  left_now = ap (λ s. left_total s + v.visited.was.left) set_to ∙ left_set old p h v.was v.visited.was v.visited.is v.at v.visited.at
 
   pub same_names : map (λ q. q.name) new ≡ map (λ q. q.name) old
   same_names = ap (map (λ q. q.name)) set_to ∙ names_same old p v.was _ v.at

@@ -1,12 +1,13 @@
 -- The beginning of a walk, and its ends.
-use Rattle.std.proofs.Common.{◌≡◌, ℕ, List, [], true, false, length, Option, Some, None, Result, Ok, Err, IsErr, refl, ap, sym, ◌∙◌, subst, append-nil, slice_get, ◌≤◌, arith}
+use Rattle.std.proofs.Common.{◌≡◌, ℕ, ◌+◌, List, [], true, false, length, Option, Some, None, Result, Ok, Err, IsErr, refl, ap, sym, ◌∙◌, subst, append-nil, slice_get, ◌≤◌, arith}
 use Rattle.std.specs.Prelude.{filter}
 use Rattle.std.specs.declared.alloc.AllocError.{AllocError}
 use Rattle.std.proofs.lemmas.Bool.{false≢true}
 use Rattle.node_store.specs.declared.item.Event.TheVariants as E
 use Rattle.node_store.specs.declared.item.Item.{Item}
-use Rattle.node_store.specs.Forest.{Forest, IsForest, cursor_at}
-use Rattle.plugin_api.specs.Shelf.{HookSeen, PluginSeen, hook_at, shelf_seen}
+use Rattle.node_store.specs.Forest.{Forest, IsForest}
+use Rattle.plugin_api.specs.Open.{open_total}
+use Rattle.plugin_api.specs.Shelf.{HookSeen, PluginSeen, left_total, hook_at, shelf_seen}
 use Rattle.visitor_machine.specs.Hooks.{PickedHook, is_at}
 use Rattle.visitor_machine.specs.Machine.{State, Opening, turn, closing}
 use Rattle.visitor_machine.specs.Follow.{start, follow}
@@ -20,10 +21,9 @@ use Rattle.visitor_walk.specs.declared.walk_end.WalkEnd.TheVariants.{Done, Faile
 use Rattle.visitor_walk.specs.Picked.{picked_hooks}
 use Rattle.visitor_walk.specs.Groups.{shown_hooks, group_of, IsGrouped, listed_hooks}
 use Rattle.visitor_walk.specs.Heard.{Heard}
-use Rattle.visitor_walk.specs.Walk.{Walks, Ends, IsSettledAfter, OpensNone}
+use Rattle.visitor_walk.specs.Walk.{Walks, Ends, IsSettledAfter}
 use Rattle.visitor_walk.specs.Turns.{IsPass, AllOnShelf, AreOnShelf}
-use Rattle.visitor_walk.specs.Ran.{AreFromBegin, Stands, Finishes, Breaks, AreLeft, in_progress}
-use Rattle.visitor_walk.proofs.Closing.{none_by}
+use Rattle.visitor_walk.specs.Ran.{Stands, Finishes, Breaks, AreLeft, in_progress}
 use Rattle.visitor_walk.proofs.Going.{all_duties}
 use Rattle.visitor_walk.proofs.Hearing.{none_more}
 use Rattle.visitor_walk.proofs.Picking.{once_hooks, exit_hooks}
@@ -39,7 +39,7 @@ use Rattle.visitor_walk.proofs.Rooting.{each_broken}
 -- before the first item
 pub first_heard : (i j at : ℕ) (o : Option HookSeen) → Heard in_progress i j at [] o o
 first_heard i j at None = refl
-first_heard i j at (Some h) = (h, refl, record { event = refl; filter = refl; duty = refl; tells = sym (none_more h.told); says = sym (append-nil h.said) })
+first_heard i j at (Some h) = (h, refl, record { event = refl; filter = refl; duty = refl; tells = sym (none_more h.told); says = sym (append-nil h.said); left = λ e. refl })
 
 abbrev pub first_stands : (hs : List PickedHook) (most : ℕ) (f : Forest) (shelf : List PluginSeen) → Stands hs most f shelf f shelf (record { calls = 0; edits = 0 }) []
 first_stands hs most f shelf = record {
@@ -57,7 +57,7 @@ first_stands hs most f shelf = record {
   };
   shows = record { nodes = refl; free = refl; frames = tt; sure = tt };
   free = λ serial c e. tt;
-  before = λ z serial c e a. (c, e);
+  count = let i : open_total f.cursors + left_total shelf ≡ open_total f.cursors + left_total shelf + 0 = omega arith in i;
   calls = refl;
   edits = refl;
 }
@@ -82,9 +82,6 @@ module _ (picked : List ℕ) (limits : Limits) (f g : Forest) (old new : List Pl
   abbrev hs : List PickedHook
   hs = picked_hooks old picked
 
-  opens_none : AreFromBegin f g [] → OpensNone f g
-  opens_none k = λ serial e. none_by (cursor_at g.cursors serial) (λ c i. let m = k serial c i tt in let n : None ≡ Some m.0 = sym e ∙ m.1 in (cc))
-
   pub walks_end : (end : WalkEnd) → Finishes hs limits f old g new [] end → Walks f g old new picked limits.calls limits.edits (Ok end)
   walks_end end r = record {
     items = r.ran.items;
@@ -94,7 +91,7 @@ module _ (picked : List ℕ) (limits : Limits) (f g : Forest) (old new : List Pl
     run = r.ran.run;
     nodes = r.ran.nodes;
     cursors = r.ran.cursors;
-    closed = λ z. opens_none (r.before z);
+    closed = let i : open_total g.cursors + left_total old ≡ open_total f.cursors + left_total new + 0 = r.count in let j : open_total g.cursors + left_total old ≡ open_total f.cursors + left_total new = omega arith in j;
     paid = r.paid;
     hears = r.ran.hears;
     duties = all_duties old hs limits.edits f.nodes r.ran.items r.ran.duties;
@@ -126,8 +123,8 @@ module _ (picked : List ℕ) (limits : Limits) (f g : Forest) (old new : List Pl
   walks_broken (Err e) h b = walks_less e (b e)
 
 -- the hooks that were read from the shelf are those that are seen of it
-pub grouped_seen : {X : Type 0} {F : X → Type 0} (told : DynBox X Global F → Option (List Told)) (said : DynBox X Global F → List (List ℕ)) (duty : DynBox X Global F → Option Duty) (hooks : RunHooks) (shelf : List (Plugin X F)) (picked : List ℕ) → IsGrouped hooks (listed_hooks shelf picked) → IsGrouped hooks (picked_hooks (shelf_seen told said duty shelf) picked)
-grouped_seen told said duty hooks shelf picked gr = subst (IsGrouped hooks) (listed_seen told said duty shelf picked) gr
+pub grouped_seen : {X : Type 0} {F : X → Type 0} (told : DynBox X Global F → Option (List Told)) (said : DynBox X Global F → List (List ℕ)) (duty : DynBox X Global F → Option Duty) (left : DynBox X Global F → ℕ) (hooks : RunHooks) (shelf : List (Plugin X F)) (picked : List ℕ) → IsGrouped hooks (listed_hooks shelf picked) → IsGrouped hooks (picked_hooks (shelf_seen told said duty left shelf) picked)
+grouped_seen told said duty left hooks shelf picked gr = subst (IsGrouped hooks) (listed_seen told said duty left shelf picked) gr
 
 pub group_there : (shelf : List PluginSeen) (hooks : RunHooks) (e : Event) (xs : List RunHook) → xs ≡ group_of hooks e → AllOnShelf shelf hooks → AreOnShelf shelf xs
 group_there shelf hooks e xs i a = λ at h k. a e at h (ap (λ l. slice_get l at) (sym i) ∙ k)

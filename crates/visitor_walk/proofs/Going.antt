@@ -142,6 +142,7 @@ plain_heard {A} r i j at xs ys (Some o) n h k =
         duty = k.2.duty;
         tells = subst (λ l. Tells r o.told k.0.told l) (sym told) k.2.tells;
         says = subst (λ l. Says r o.said k.0.said l) (sym said) k.2.says;
+        left = λ e. k.2.left (sym told ∙ e);
       },
     )
 

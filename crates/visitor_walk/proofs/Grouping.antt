@@ -73,18 +73,18 @@ module _ {X : Type 0} {F : X → Type 0} where
     pub picked_end : (group : List RunHook) (at : ℕ) → length picked ≤ at → shown_hooks group ++ filter test (listed_hooks shelf (drop at picked)) ≡ out → shown_hooks group ≡ out
     picked_end group at l w = sym (append-nil (shown_hooks group)) ∙ (ap (λ xs. shown_hooks group ++ filter test (listed_hooks shelf xs)) (sym (drop_all picked at l)) ∙ w)
 
-  module _ (told : DynBox X Global F → Option (List Told)) (said : DynBox X Global F → List (List ℕ)) (duty : DynBox X Global F → Option Duty) where
-    from_seen : (plugin hook : ℕ) (hs : List (Hook X F)) → listed_from plugin hook hs ≡ hooks_from plugin hook (hooks_seen told said duty hs)
+  module _ (told : DynBox X Global F → Option (List Told)) (said : DynBox X Global F → List (List ℕ)) (duty : DynBox X Global F → Option Duty) (left : DynBox X Global F → ℕ) where
+    from_seen : (plugin hook : ℕ) (hs : List (Hook X F)) → listed_from plugin hook hs ≡ hooks_from plugin hook (hooks_seen told said duty left hs)
     from_seen plugin hook [] = refl
     from_seen plugin hook (h ∷ hs) = ap (λ xs. record { plugin = plugin; hook = hook; event = h.event; filter = h.filter } ∷ xs) (from_seen plugin (suc hook) hs)
 
-    hooks_of_seen : (o : Option (Plugin X F)) → hooks_seen told said duty (hooks_in o) ≡ hooks_of (option_map (plugin_seen told said duty) o)
+    hooks_of_seen : (o : Option (Plugin X F)) → hooks_seen told said duty left (hooks_in o) ≡ hooks_of (option_map (plugin_seen told said duty left) o)
     hooks_of_seen None = refl
     hooks_of_seen (Some p) = refl
 
     -- what is read from the shelf is what is seen of it
-    pub listed_seen : (shelf : List (Plugin X F)) (picked : List ℕ) → listed_hooks shelf picked ≡ picked_hooks (shelf_seen told said duty shelf) picked
+    pub listed_seen : (shelf : List (Plugin X F)) (picked : List ℕ) → listed_hooks shelf picked ≡ picked_hooks (shelf_seen told said duty left shelf) picked
     listed_seen shelf [] = refl
     listed_seen shelf (i ∷ is) =
-        let a : listed_from i 0 (hooks_in (slice_get shelf i)) ≡ hooks_from i 0 (hooks_of (slice_get (shelf_seen told said duty shelf) i)) = from_seen i 0 (hooks_in (slice_get shelf i)) ∙ (ap (λ x. hooks_from i 0 x) (hooks_of_seen (slice_get shelf i)) ∙ ap (λ x. hooks_from i 0 (hooks_of x)) (sym (slice_get-map (plugin_seen told said duty) shelf i))) in
-        ap (λ xs. xs ++ listed_hooks shelf is) a ∙ ap (λ xs. hooks_from i 0 (hooks_of (slice_get (shelf_seen told said duty shelf) i)) ++ xs) (listed_seen shelf is)
+        let a : listed_from i 0 (hooks_in (slice_get shelf i)) ≡ hooks_from i 0 (hooks_of (slice_get (shelf_seen told said duty left shelf) i)) = from_seen i 0 (hooks_in (slice_get shelf i)) ∙ (ap (λ x. hooks_from i 0 x) (hooks_of_seen (slice_get shelf i)) ∙ ap (λ x. hooks_from i 0 (hooks_of x)) (sym (slice_get-map (plugin_seen told said duty left) shelf i))) in
+        ap (λ xs. xs ++ listed_hooks shelf is) a ∙ ap (λ xs. hooks_from i 0 (hooks_of (slice_get (shelf_seen told said duty left shelf) i)) ++ xs) (listed_seen shelf is)

@@ -89,6 +89,7 @@ quiet_heard {A} r i j at xs ys (Some o) n z t q k =
         duty = k.2.duty;
         tells = subst (λ l. Tells r o.told k.0.told l) (sym told) k.2.tells;
         says = subst (λ l. Says r o.said k.0.said l) (sym said) k.2.says;
+        left = λ e. k.2.left (sym told ∙ e);
       },
     )
 
@@ -104,8 +105,13 @@ heard_less x e i j at xs (Some o) n k = (
     duty = k.2.duty;
     tells = ([], none_more k.0.told ∙ k.2.tells);
     says = ([], k.2.says ∙ ap (λ l. o.said ++ l) (sym (append-nil (said_of i j false xs))));
+    left = k.2.left;
   },
 )
+
+not_empty : (xs : List Told) (t : Told) → xs ++ t ∷ [] ≡ [] → ⊥
+not_empty [] t e = absurd cc
+not_empty (x ∷ xs) t e = absurd cc
 
 falses : (i j p h : ℕ) → (nat_eq p i && nat_eq h j) ≡ false → i ≡ p → j ≡ h → ⊥
 falses i j p h e a b = false≢true (sym e ∙ and_from (nat_eq p i) (nat_eq h j) (eq-eqb p i (sym a)) (eq-eqb h j (sym b)))
@@ -150,6 +156,7 @@ module _ {A : Type 0} (x : A) (err : AllocError) (old : List PluginSeen) {new1 n
             duty = q.visited.visited.keeps ∙ (ap (λ (y : HookSeen). y.duty) same ∙ k.2.duty);
             tells = tells_back a fault o.told q.was.told q.is.told (told_of p h start xs) _ b (told_item q.was.told q.visited.visited.tells) (ap (λ (y : HookSeen). y.told) same ∙ k.2.tells) ∙ ap (told_more o.told) (sym told_all);
             says = says_back a fault o.said q.was.said q.is.said (said_of p h false xs) b q.visited.visited.says (ap (λ (y : HookSeen). y.said) same ∙ k.2.says) ∙ ap (λ l. o.said ++ l) (ap (λ l. said_of p h false xs ++ said_of 0 0 true l) (sym t) ∙ sym said_all);
+            left = λ e. absurd (not_empty _ _ (sym told_all ∙ e));
           },
         )
 
@@ -166,6 +173,7 @@ module _ {A : Type 0} (x : A) (err : AllocError) (old : List PluginSeen) {new1 n
             duty = q.visited.visited.keeps ∙ (ap (λ (y : HookSeen). y.duty) same ∙ k.2.duty);
             tells = subst (λ l. Tells (err_of {A = A} err) o.told q.is.told l) (sym told_all) (tells_open a o.told q.was.told q.is.told (told_of p h start xs) _ (told_item q.was.told q.visited.visited.tells) (ap (λ (y : HookSeen). y.told) same ∙ k.2.tells));
             says = subst (λ l. Says (err_of {A = A} err) o.said q.is.said l) (ap (λ l. said_of p h false xs ++ said_of 0 0 true l) (sym t) ∙ sym said_all) (says_open a o.said q.was.said q.is.said (said_of p h false xs) q.visited.visited.says (ap (λ (y : HookSeen). y.said) same ∙ k.2.says));
+            left = λ e. absurd (not_empty _ _ (sym told_all ∙ e));
           },
         )
 

@@ -11,7 +11,8 @@ use Rattle.node_store.specs.declared.item.Item.{Item}
 use Rattle.node_store.specs.declared.item.Item.TheVariants as I
 use Rattle.node_store.specs.Forest.{Forest, Place}
 use Rattle.node_store.specs.Edits.{all_can, apply_all}
-use Rattle.plugin_api.specs.Shelf.{PluginSeen}
+use Rattle.plugin_api.specs.Open.{open_total}
+use Rattle.plugin_api.specs.Shelf.{PluginSeen, left_total}
 use Rattle.visitor_machine.specs.Hooks.{PickedHook}
 use Rattle.visitor_machine.specs.Machine.{Frame}
 use Rattle.visitor_machine.specs.Settled.{IsInTree}
@@ -21,7 +22,7 @@ use Rattle.visitor_walk.specs.declared.spent.Spent.{Spent}
 use Rattle.visitor_walk.specs.declared.known.Before.{Before}
 use Rattle.visitor_walk.specs.Called.{CameBack}
 use Rattle.visitor_walk.specs.Known.{puts_into, takes_out, counted, parent_or, before_call, lost_its_own, stays_known, kept, kept_two, CallEdits}
-use Rattle.visitor_walk.specs.Turns.{AllApart, AllShown, IsSure, AllSure, IsPass}
+use Rattle.visitor_walk.specs.Turns.{AllApart, AllShown, held, IsSure, AllSure, IsPass}
 use Rattle.visitor_walk.specs.Ran.{Stands}
 use Rattle.visitor_walk.proofs.Staying.{stays_there}
 use Rattle.visitor_walk.proofs.Knowing.{sure_as, shown_known, below_known}
@@ -118,14 +119,14 @@ module _ (g : Forest) (b : Before) (x : ℕ) where
   apart_kept (o ∷ []) serial h = h
   apart_kept (o ∷ p ∷ os) serial h = h
 
-  pub kept_apart : (os : List Open) (serial : ℕ) → AllApart (kept_two g b x os) serial → AllApart os serial
-  kept_apart [] serial h = h
-  kept_apart (o ∷ []) serial h = h
-  kept_apart (o ∷ p ∷ os) serial h = h
+  pub held_kept : (os : List Open) → held (kept_two g b x os) ≡ held os
+  held_kept [] = refl
+  held_kept (o ∷ []) = refl
+  held_kept (o ∷ p ∷ os) = refl
 
 -- the walk stands after a call as it did, and knows more
 abbrev pub stands_kept : {hs : List PickedHook} {most : ℕ} {begin f g : Forest} {old new : List PluginSeen} {spent : Spent} {os : List Open} (n k : ℕ) → IsSound f.nodes → 0 < length f.nodes → CallEdits f g → AllSure f.nodes k os → Stands hs most begin old g new spent os → Stands hs most begin old g new spent (kept_two g (before_call f n k) spent.edits os)
-stands_kept {f = f} {g = g} {spent = spent} {os = os} n k sound some ce h t = record {
+stands_kept {begin = begin} {f = f} {g = g} {new = new} {spent = spent} {os = os} n k sound some ce h t = record {
   ran = t.ran;
   shows = record {
     nodes = t.shows.nodes;
@@ -134,7 +135,7 @@ stands_kept {f = f} {g = g} {spent = spent} {os = os} n k sound some ce h t = re
     sure = kept_sure f g sound some ce n k spent.edits t.ran.state.edits (sym t.edits) os h t.shows.sure;
   };
   free = λ serial c e. apart_kept g (before_call f n k) spent.edits os serial (t.free serial c e);
-  before = λ z serial c e a. t.before z serial c e (kept_apart g (before_call f n k) spent.edits os serial a);
+  count = t.count ∙ ap (λ n. open_total begin.cursors + left_total new + n) (sym (held_kept g (before_call f n k) spent.edits os));
   calls = t.calls;
   edits = t.edits;
 }

@@ -1,5 +1,5 @@
 -- What is known of the visits' places changes no turn, and is known of a parent where it is of its child.
-use Rattle.std.proofs.Common.{◌≡◌, ◌≢◌, ℕ, List, [], ◌∷◌, Bool, true, false, length, Option, Some, None, IfOk, Result, Ok, Err, refl, ap, sym, arith}
+use Rattle.std.proofs.Common.{◌≡◌, ◌≢◌, ℕ, ◌+◌, List, [], ◌∷◌, Bool, true, false, length, Option, Some, None, IfOk, Result, Ok, Err, refl, ap, sym, ◌∙◌, arith}
 use Rattle.std.specs.Prelude.{if◌then◌else◌}
 use Rattle.std.specs.declared.alloc.AllocError.{AllocError}
 use Rattle.std.proofs.lemmas.Bool.{false≢true}
@@ -14,7 +14,8 @@ use Rattle.visitor_machine.specs.Settled.{IsInTree}
 use Rattle.visitor_walk.specs.declared.turn.Open.{Open}
 use Rattle.visitor_walk.specs.declared.turn.Due.{Due}
 use Rattle.visitor_walk.specs.Known.{shared}
-use Rattle.visitor_walk.specs.Turns.{AllApart, AreOthers, AllShown, IsSure, Shows, Strolls, StayApart, Turned, IsLess}
+use Rattle.plugin_api.specs.Open.{open_total}
+use Rattle.visitor_walk.specs.Turns.{held, AllApart, AreOthers, AllShown, IsSure, Shows, Strolls, StayApart, Turned, IsLess}
 use Rattle.visitor_walk.proofs.Sure.{sure_from}
 
 pub shown_known : (cs : List (Option Place)) (o : Open) (os : List Open) (fs : List Frame) (k : ℕ) → AllShown cs (o ∷ os) fs → AllShown cs (record o { sure = k } ∷ os) fs
@@ -67,17 +68,17 @@ pub apart_shared : (ns : List Node) (o : Open) (k : ℕ) (os : List Open) (seria
 apart_shared ns o k [] serial h = h
 apart_shared ns o k (p ∷ os) serial h = h
 
-pub shared_apart : (ns : List Node) (o : Open) (k : ℕ) (os : List Open) (serial : ℕ) → AllApart (record o { sure = k } ∷ shared ns (record o { sure = k }) os) serial → AllApart (o ∷ os) serial
-shared_apart ns o k [] serial h = h
-shared_apart ns o k (p ∷ os) serial h = h
+pub held_shared : (ns : List Node) (o : Open) (k : ℕ) (os : List Open) → held (record o { sure = k } ∷ shared ns (record o { sure = k }) os) ≡ held (o ∷ os)
+held_shared ns o k [] = refl
+held_shared ns o k (p ∷ os) = refl
 
 -- other visits with the same cursors
-module _ (hs : List PickedHook) (most : ℕ) (f g : Forest) (s : State) (os ps us : List Open) (to : (serial : ℕ) → AllApart os serial → AllApart ps serial) (from : (serial : ℕ) → AllApart ps serial → AllApart os serial) where
+module _ (hs : List PickedHook) (most : ℕ) (f g : Forest) (s : State) (os ps us : List Open) (to : (serial : ℕ) → AllApart os serial → AllApart ps serial) (same : held ps ≡ held os) where
   abbrev strolls_as : Strolls hs most f ps s g → Strolls hs most f os s g
   strolls_as w = record { items = w.items; state = w.state; run = w.run; plain = w.plain; text = w.text; log = w.log; nodes = w.nodes; through = w.through; edits = w.edits; kept = λ serial c e a. w.kept serial c e (to serial a) }
 
   apart_as : StayApart f g ps us → StayApart f g os us
-  apart_as x = record { apart = λ serial c e a. x.apart serial c e (to serial a); before = λ serial c e a. let m = x.before serial c e a in (m.0, from serial m.1) }
+  apart_as x = record { apart = λ serial c e a. x.apart serial c e (to serial a); count = ap (λ n. open_total g.cursors + n) (sym same) ∙ x.count }
 
   turned_as : (t : State) (r : Option Due) → Turned hs f g ps us s t r → Turned hs f g os us s t r
   turned_as t None h = (h.0, (apart_as h.1.0, h.1.1))

@@ -9,7 +9,8 @@ use Rattle.node_store.specs.declared.item.Item.{Item}
 use Rattle.node_store.specs.declared.item.Item.TheVariants as I
 use Rattle.node_store.specs.Forest.{Forest, cursor_at, unreserved}
 use Rattle.node_store.specs.Edits.{apply_all, moved_all}
-use Rattle.plugin_api.specs.Shelf.{PluginSeen, hook_at}
+use Rattle.plugin_api.specs.Open.{open_total}
+use Rattle.plugin_api.specs.Shelf.{PluginSeen, left_total, hook_at}
 use Rattle.plugin_api.proofs.ShelfLemmas.{place_kept}
 use Rattle.visitor_machine.specs.Hooks.{PickedHook}
 use Rattle.visitor_machine.specs.Machine.{Stage, Stopped, turn, done}
@@ -24,18 +25,18 @@ use Rattle.visitor_walk.specs.declared.walk_end.WalkEnd.TheVariants.{Done, Faile
 use Rattle.visitor_walk.specs.Called.{CameBack, Called}
 use Rattle.visitor_walk.specs.Heard.{Heard}
 use Rattle.visitor_walk.specs.Walk.{EndsCalled}
-use Rattle.visitor_walk.specs.Turns.{AllShown, AllSure}
-use Rattle.visitor_walk.specs.Ran.{Ran, IsReady, Finishes, Breaks, Made, end_of}
+use Rattle.visitor_walk.specs.Turns.{held, AllShown, AllSure}
+use Rattle.visitor_walk.specs.Ran.{AreCounted, Ran, IsReady, Finishes, Breaks, Made, end_of}
 use Rattle.visitor_walk.proofs.Chunks as Chunks
 use Rattle.visitor_walk.proofs.Turning.{done_edits}
 use Rattle.visitor_walk.proofs.Sure.{sure_edited}
-use Rattle.visitor_walk.proofs.Calling.{edited_count, edited_stage, edited_frames, shown_moved, back_edits, moved_frames}
+use Rattle.visitor_walk.proofs.Calling.{left_back, left_now, edited_count, edited_stage, edited_frames, shown_moved, back_edits, moved_frames}
 use Rattle.visitor_walk.proofs.Hearing.{ok_of, err_of, heard_less, call_chunk}
 use Rattle.visitor_walk.proofs.Returning.{back_ran, back_state, open_ran, es, called_state, visit}
 
 pub as_end : {A : Type 0} (x y : A) (i j at : ℕ) (xs : List Item) (o n : Option _) → Heard (ok_of x) i j at xs o n → Heard (ok_of y) i j at xs o n
 as_end x y i j at xs None n k = k
-as_end x y i j at xs (Some o) n k = (k.0, k.1, record { event = k.2.event; filter = k.2.filter; duty = k.2.duty; tells = k.2.tells; says = k.2.says })
+as_end x y i j at xs (Some o) n k = (k.0, k.1, record { event = k.2.event; filter = k.2.filter; duty = k.2.duty; tells = k.2.tells; says = k.2.says; left = k.2.left })
 
 -- the same run, with another end
 abbrev pub ran_as : {A : Type 0} (x y : A) {hs : List PickedHook} {most : ℕ} {begin f : Forest} {old new : List PluginSeen} → Ran (ok_of x) hs most begin old f new → Ran (ok_of y) hs most begin old f new
@@ -71,7 +72,8 @@ module _ {hs : List PickedHook} (limits : Limits) {begin f : Forest} {old new1 :
   all_spent e = record {
     ran = ran_as Done (BudgetSpent spent.calls due.moment) r.ran;
     ends = (e, r.calls ∙ e, record { plugin = due.plugin; hook = due.hook; is = rw r.is.free r.is.item });
-    before = r.before;
+    shown = (_, r.is.frames);
+    count = r.count;
     paid = let i = r.calls in omega arith;
   }
 
@@ -110,6 +112,26 @@ module _ {hs : List PickedHook} (limits : Limits) {begin f : Forest} {old new1 :
         let seven : length (f.log ++ I.Call due.plugin due.hook due.moment ∷ []) ≡ length f.log + 1 = length-append f.log (I.Call due.plugin due.hook due.moment ∷ []) in
         omega arith
 
+    -- the visits' cursors stay open over the call
+    still_shown : (fault : Option (List ℕ)) (c : CameBack f g new1 new2 due fault) → AllShown g.cursors os (moved_frames (called_state Done err r.ran r.is c.visits).nodes (es Done err r.ran r.is c.visits) (called_state Done err r.ran r.is c.visits).frames)
+    still_shown fault c =
+        let v = c.visits in
+        let q = es Done err r.ran r.is v in
+        let t = called_state Done err r.ran r.is v in
+        shown_moved f.cursors g.cursors t.nodes q (λ serial d i. ap (λ (y : Forest). cursor_at y.cursors serial) c.logged ∙ ((visit Done err r.ran r.is v).edited.cursors serial d (ap (λ (y : Forest). cursor_at y.cursors serial) v.logged ∙ i) ∙ ap (λ ns. moved_all ns q (Some d)) (ap (λ (y : Forest). y.nodes) v.logged ∙ sym r.is.nodes))) os t.frames r.is.frames
+
+    still_counted : (fault : Option (List ℕ)) (c : CameBack f g new1 new2 due fault) → AreCounted begin old g new2 os
+    still_counted fault c =
+        let v = c.visits in
+        let hook = v.visited.visited in
+        let one : open_total f.cursors + left_total old ≡ open_total begin.cursors + left_total new1 + held os = r.count in
+        let two = left_back c.answer fault hook.was.left hook.is.left v.at c.end c.back (visit Done err r.ran r.is v).leaves in
+        let three = left_now v.visited in
+        let four : open_total v.at.cursors ≡ open_total f.cursors = ap (λ (y : Forest). open_total y.cursors) v.logged in
+        let five : open_total g.cursors ≡ open_total c.end.cursors = ap (λ (y : Forest). open_total y.cursors) c.logged in
+        let six : open_total g.cursors + left_total old ≡ open_total begin.cursors + left_total new2 + held os = omega arith in
+        six
+
     ends_called : (fault : Option (List ℕ)) (c : CameBack f g new1 new2 due fault) → EndsCalled (r.ran.items ++ call_chunk due.plugin due.hook due.moment (es Done err r.ran r.is c.visits) (I.Back fault ∷ [])) due.moment fault
     ends_called fault c = record { front = r.ran.items; plugin = due.plugin; hook = due.hook; edits = es Done err r.ran r.is c.visits; are = refl }
 
@@ -117,7 +139,8 @@ module _ {hs : List PickedHook} (limits : Limits) {begin f : Forest} {old new1 :
     went_on c true e = record {
       ran = ran_as Done (EditBudgetSpent spent'.edits due.moment) (back_ran Done err r.ran r.is c.visits g None c.back c.logged);
       ends = (sym (back_count None c), subst (λ k. limits.edits < k) refl (ltb-true limits.edits spent'.edits e), ends_called None c);
-      before = λ z. absurd (let i = back_calls None c in omega arith);
+      shown = (_, still_shown None c);
+      count = still_counted None c;
       paid = let i = r.calls in let j = back_calls None c in omega arith;
     }
     went_on c false e =
@@ -129,8 +152,7 @@ module _ {hs : List PickedHook} (limits : Limits) {begin f : Forest} {old new1 :
         let edits : u.edits ≡ r.ran.state.edits + length q = edited_count t q ∙ ap (λ k. k + length q) (done_edits hs r.ran.state (turn hs r.ran.state)) in
         let nodes : g.nodes ≡ apply_all f.nodes q = ap (λ (y : Forest). y.nodes) c.logged ∙ ((visit Done err r.ran r.is v).edited.nodes ∙ ap (λ (y : Forest). apply_all y.nodes q) v.logged) in
         let over : nat_lt limits.edits u.edits ≡ false = ap (λ k. nat_lt limits.edits k) count ∙ e in
-        let frames : AllShown g.cursors os (moved_frames t.nodes q t.frames) =
-        shown_moved f.cursors g.cursors t.nodes q (λ serial d i. ap (λ (y : Forest). cursor_at y.cursors serial) c.logged ∙ ((visit Done err r.ran r.is v).edited.cursors serial d (ap (λ (y : Forest). cursor_at y.cursors serial) v.logged ∙ i) ∙ ap (λ ns. moved_all ns q (Some d)) (ap (λ (y : Forest). y.nodes) v.logged ∙ sym r.is.nodes))) os t.frames r.is.frames in (
+        let frames : AllShown g.cursors os (moved_frames t.nodes q t.frames) = still_shown None c in (
           record {
             ran = back_ran Done err r.ran r.is v g None c.back c.logged;
             shows = record {
@@ -140,7 +162,7 @@ module _ {hs : List PickedHook} (limits : Limits) {begin f : Forest} {old new1 :
               sure = subst (λ ns. AllSure ns u.edits os) (sym nodes) (subst (λ k. AllSure (apply_all f.nodes q) k os) (sym edits) (sure_edited f.nodes r.ran.state.edits q os r.is.sure));
             };
             free = r.free;
-            before = λ z. absurd (let i = back_calls None c in omega arith);
+            count = still_counted None c;
             calls = let i = r.calls in let j = back_calls None c in omega arith;
             edits = count;
           },
@@ -152,7 +174,8 @@ module _ {hs : List PickedHook} (limits : Limits) {begin f : Forest} {old new1 :
     came (Some text) c = record {
       ran = ran_as Done (Failed text due.moment) (back_ran Done err r.ran r.is c.visits g (Some text) c.back c.logged);
       ends = ends_called (Some text) c;
-      before = λ z. absurd (let i = back_calls (Some text) c in omega arith);
+      shown = (_, still_shown (Some text) c);
+      count = still_counted (Some text) c;
       paid = let i = r.calls in let j = back_calls (Some text) c in omega arith;
     }
 

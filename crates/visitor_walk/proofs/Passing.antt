@@ -13,7 +13,8 @@ use Rattle.visitor_machine.proofs.Turns.{follow_append}
 use Rattle.visitor_machine.specs.Settled.{IsInTree}
 use Rattle.visitor_walk.specs.declared.turn.Open.{Open}
 use Rattle.visitor_walk.specs.declared.turn.Due.{Due}
-use Rattle.visitor_walk.specs.Turns.{AllApart, AllShown, AllSure, Shows, IsPass, IsPlain, Strolls, StayApart, Turned, Advanced, Began, Passed, fresh, nodes_through}
+use Rattle.plugin_api.specs.Open.{open_total}
+use Rattle.visitor_walk.specs.Turns.{held, AllApart, AllShown, AllSure, Shows, IsPass, IsPlain, Strolls, StayApart, Turned, Advanced, Began, Passed, fresh, nodes_through}
 use Rattle.visitor_walk.proofs.Chunks.{through-append}
 use Rattle.visitor_walk.proofs.Sure.{sure_from, root_there, there_marked}
 use Rattle.visitor_walk.proofs.Turning.{stayed, moved_on}
@@ -52,7 +53,7 @@ abbrev pub Stood : List PickedHook → ℕ → Forest → List Open → State �
 Stood hs most f os s g us = (w : Strolls hs most f os s g) × (Shows g us w.state × (StayApart f g os us × IsPass hs w.state.stage))
 
 pub at_first : (hs : List PickedHook) (most : ℕ) (f : Forest) (os : List Open) (s : State) → IsPass hs s.stage → Shows f os s → Stood hs most f os s f os
-at_first hs most f os s p w = (stayed hs most f f os s w.nodes (record { text = refl; nodes = refl; log = refl }) (λ serial c e a. e), (w, (record { apart = λ serial c e a. a; before = λ serial c e a. ((c, e), a) }, p)))
+at_first hs most f os s p w = (stayed hs most f f os s w.nodes (record { text = refl; nodes = refl; log = refl }) (λ serial c e a. e), (w, (record { apart = λ serial c e a. a; count = refl }, p)))
 
 -- the visits have another name
 pub renamed : (hs : List PickedHook) (most : ℕ) (f g : Forest) (os us vs : List Open) (s : State) → vs ≡ us → Stood hs most f os s g us → Stood hs most f os s g vs
@@ -62,9 +63,9 @@ same_pass : (hs : List PickedHook) (a b : Stage) → a ≡ b → IsPass hs b →
 same_pass hs a b e p = subst (IsPass hs) (sym e) p
 
 kept_apart : {hs : List PickedHook} {most : ℕ} {f g h : Forest} {os : List Open} {s : State} (us vs : List Open) → (w : Strolls hs most f os s g) → StayApart f g os us → StayApart g h us vs → StayApart f h os vs
-kept_apart us vs w a b = record {
+kept_apart {f = f} {g = g} {h = h} {os = os} us vs w a b = record {
   apart = λ serial c e k. b.apart serial c (w.kept serial c e k) (a.apart serial c e k);
-  before = λ serial c e k. let m = b.before serial c e k in a.before serial m.0.0 m.0.1 m.1;
+  count = let i : open_total g.cursors + held os ≡ open_total f.cursors + held us = a.count in let j : open_total h.cursors + held us ≡ open_total g.cursors + held vs = b.count in let k : open_total h.cursors + held os ≡ open_total f.cursors + held vs = omega arith in k;
 }
 
 -- a turn after what has been so far
@@ -144,7 +145,12 @@ module _ (hs : List PickedHook) (most : ℕ) (f : Forest) (s : State) (p : IsPas
             walking_is hs,
             record {
               apart = λ serial c j k. subst (λ us. AllApart us serial) (sym back) (tt, tt);
-              before = λ serial c j k. ((c, sym (ap (λ (y : Forest). cursor_at y.cursors serial) e) ∙ (sym (ap (λ (y : Forest). cursor_at y.cursors serial) i) ∙ j)), tt);
+              count =
+                  let j : held (reverse more) ≡ 0 = ap held back in
+                  let k : open_total g.cursors ≡ open_total f.cursors = ap (λ (y : Forest). open_total y.cursors) e in
+                  let l : open_total h.cursors ≡ open_total g.cursors = ap (λ (y : Forest). open_total y.cursors) i in
+                  let m : open_total h.cursors + 0 ≡ open_total f.cursors + held (reverse more) = omega arith in
+                  m;
             },
           ),
         ),

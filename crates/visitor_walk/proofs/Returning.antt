@@ -102,7 +102,7 @@ owed_at x i j at xs (Some o) n w ns m es r e k h =
     subst (λ d. Dutiful d ns m es r) (ap (λ (y : HookSeen). y.duty) same ∙ k.2.duty) h
 
 module _ {A : Type 0} (x : A) (err : AllocError) {hs : List PickedHook} {most : ℕ} {begin f k : Forest} {old new1 new2 : List PluginSeen} {os : List Open} {due : Due} {answer : Answer} (a : Ran (ok_of x) hs most begin old f new1) (d : IsDue hs f os a.state due) (v : Visits f k new1 new2 due answer) where
-  abbrev pub visit : Visited v.visited.visited.was.told v.visited.visited.is.told v.visited.visited.was.said v.visited.visited.is.said v.visited.visited.was.duty v.visited.visited.is.duty v.at k due.moment answer
+  abbrev pub visit : Visited v.visited.visited.was.told v.visited.visited.is.told v.visited.visited.was.said v.visited.visited.is.said v.visited.visited.was.duty v.visited.visited.is.duty v.visited.visited.was.left v.visited.visited.is.left v.at k due.moment answer
   visit = v.visited.visited.visited.visited
 
   abbrev pub es : List Edit

@@ -5,6 +5,7 @@ use Rattle.std.proofs.lemmas.Bool.{false≢true}
 use Rattle.node_store.specs.declared.item.Item.TheVariants as I
 use Rattle.node_store.specs.Forest.{Forest, cursor_at, unreserved}
 use Rattle.node_store.specs.Edits.{noted}
+use Rattle.plugin_api.specs.Open.{open_total}
 use Rattle.plugin_api.specs.Shelf.{PluginSeen}
 use Rattle.visitor_machine.specs.Hooks.{PickedHook}
 use Rattle.visitor_machine.specs.Machine.{State, ToOnce, ToOnceExit, ToEnd, Move, turn, turn_in, item_of, done, called}
@@ -19,7 +20,7 @@ use Rattle.visitor_walk.specs.Turns.{AllShown, Strolls}
 use Rattle.visitor_walk.specs.Ran.{EachMade, Stands, IsReady, Finishes, Breaks, AreLeft}
 use Rattle.visitor_walk.proofs.Turning.{moved_on}
 use Rattle.visitor_walk.proofs.Passing.{pass_fails}
-use Rattle.visitor_walk.proofs.Walking.{ran_on, calls_on, before_on, broken_on}
+use Rattle.visitor_walk.proofs.Walking.{ran_on, calls_on, count_on, broken_on}
 use Rattle.visitor_walk.proofs.Grouping.{drop_at, drop_all}
 
 -- the machine's move, while hooks are left
@@ -57,7 +58,7 @@ module _ {hs : List PickedHook} {most : ℕ} {begin f : Forest} {old new : List 
           sure = tt;
         };
         free = t.free;
-        before = t.before;
+        count = t.count;
         calls = t.calls;
         edits = t.edits;
       }
@@ -67,7 +68,7 @@ module _ {hs : List PickedHook} {most : ℕ} {begin f : Forest} {old new : List 
   end_noted limits g q l e i =
       let w : Strolls hs most f [] t.ran.state g = moved_on hs most f g [] t.ran.state ToEnd I.End t.shows.free e refl tt refl (ap (λ (x : Forest). x.text) i) (ap (λ (x : Forest). x.log) i) (ap (λ (x : Forest). x.nodes) i ∙ sym t.shows.nodes) (λ serial c j a. ap (λ (x : Forest). cursor_at x.cursors serial) i ∙ j) in
       let ran = ran_on t w in
-      record { ran = ran; ends = refl; before = before_on t w [] (record { apart = λ serial c j a. a; before = λ serial c j a. ((c, sym (ap (λ (x : Forest). cursor_at x.cursors serial) i) ∙ j), a) }); paid = let c = calls_on t w in omega arith }
+      record { ran = ran; ends = refl; shown = ([], tt); count = count_on t w [] (record { apart = λ serial c j a. a; count = ap (λ (x : Forest). open_total x.cursors + 0) i }); paid = let c = calls_on t w in omega arith }
 
   -- the End doesn't find memory
   pub end_fails : (limits : Limits) (g : Forest) (e : AllocError) → limits.edits ≡ most → spent.calls ≤ limits.calls → unreserved g ≡ unreserved f → Breaks hs (record { calls = limits.calls; edits = most }) begin old g new e

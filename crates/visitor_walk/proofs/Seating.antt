@@ -1,5 +1,5 @@
 -- Cursors of visits.
-use Rattle.std.proofs.Common.{◌≡◌, ◌≢◌, ℕ, zero, suc, ◌<◌, List, [], ◌∷◌, Bool, true, false, length, Option, Some, None, IsSome, IfSome, Result, Ok, Err, refl, ap, sym, ◌∙◌, subst, drop, slice_get, slice_set}
+use Rattle.std.proofs.Common.{◌≡◌, ◌≢◌, ℕ, zero, suc, ◌<◌, List, [], ◌∷◌, Bool, true, false, length, Option, Some, None, IsSome, IfSome, Result, Ok, Err, refl, ap, sym, ◌∙◌, subst, drop, slice_get, slice_set, ◌+◌, arith}
 use Rattle.std.specs.Prelude.{nat_lt, is_some, if◌then◌else◌}
 use Rattle.std.proofs.lemmas.Bool.{lt-ltb, false≢true}
 use Rattle.css_tree.specs.declared.node.Block.{Block}
@@ -11,9 +11,10 @@ use Rattle.node_store.specs.declared.fault.TreeFault.TheVariants.{NoSuchNode, Wr
 use Rattle.node_store.specs.Forest.{Forest, Place, IsForest, cursor_at}
 use Rattle.node_store.specs.Cursors.{with_cursor, IsOpened, through, first_of, ahead, passed_on, after_next_dirty, after_of, next_dirty_of, answer_of}
 use Rattle.node_store.specs.Answers.{open_refusal, IsCloseAnswer}
+use Rattle.plugin_api.specs.Open.{open_total}
 use Rattle.visitor_machine.proofs.Through.{passes_it}
 use Rattle.visitor_machine.proofs.Marks.{dirty-inside}
-use Rattle.visitor_walk.specs.Turns.{IsSeated, Opened, IsEmptyWhere, NextDirty, Closes, Reseats, due_child, passed_with}
+use Rattle.visitor_walk.specs.Turns.{held_by, IsSeated, Opened, IsEmptyWhere, NextDirty, Closes, Reseats, due_child, passed_with}
 
 pub with_same : (cs : List (Option Place)) (serial : ℕ) (c : Option Place) → cursor_at (with_cursor cs serial c) serial ≡ c
 with_same [] zero c = refl
@@ -48,13 +49,44 @@ set_other (x ∷ xs) zero d (suc t) n = refl
 set_other (x ∷ xs) (suc serial) d zero n = refl
 set_other (x ∷ xs) (suc serial) d (suc t) n = set_other xs serial d t (λ e. n (ap suc e))
 
--- a cursor that is open after one was set was open before
-set_before : (cs : List (Option Place)) (serial : ℕ) (c : Place) (d : Option Place) (t : ℕ) (e : Place) → cursor_at cs serial ≡ Some c → cursor_at (slice_set cs serial d) t ≡ Some e → (b : Place) × (cursor_at cs t ≡ Some b)
-set_before [] serial c d t e h k = let i : None ≡ Some c = sym (none_in serial) ∙ h in absurd cc
-set_before (x ∷ xs) zero c d zero e h k = (c, h)
-set_before (x ∷ xs) zero c d (suc t) e h k = (e, k)
-set_before (x ∷ xs) (suc serial) c d zero e h k = (e, k)
-set_before (x ∷ xs) (suc serial) c d (suc t) e h k = set_before xs serial c d t e h k
+-- an open cursor that is set leaves as many open
+set_total : (cs : List (Option Place)) (serial : ℕ) (c d : Place) → cursor_at cs serial ≡ Some c → open_total (slice_set cs serial (Some d)) ≡ open_total cs
+set_total [] serial c d h = let i : None ≡ Some c = sym (none_in serial) ∙ h in absurd cc
+set_total (None ∷ xs) zero c d h = absurd cc
+set_total (Some x ∷ xs) zero c d h = refl
+set_total (None ∷ xs) (suc serial) c d h = set_total xs serial c d h
+set_total (Some x ∷ xs) (suc serial) c d h = ap suc (set_total xs serial c d h)
+
+-- one that is opened makes one more
+opened_total : (cs : List (Option Place)) (serial : ℕ) (d : Place) → cursor_at cs serial ≡ None → open_total (with_cursor cs serial (Some d)) ≡ suc (open_total cs)
+opened_total [] zero d h = refl
+opened_total [] (suc serial) d h = opened_total [] serial d (none_in serial)
+opened_total (None ∷ xs) zero d h = refl
+opened_total (Some x ∷ xs) zero d h = absurd cc
+opened_total (None ∷ xs) (suc serial) d h = opened_total xs serial d h
+opened_total (Some x ∷ xs) (suc serial) d h = ap suc (opened_total xs serial d h)
+
+-- one that is closed makes one less
+closed_total : (cs : List (Option Place)) (serial : ℕ) (c : Place) → cursor_at cs serial ≡ Some c → suc (open_total (with_cursor cs serial None)) ≡ open_total cs
+closed_total [] serial c h = let i : None ≡ Some c = sym (none_in serial) ∙ h in absurd cc
+closed_total (None ∷ xs) zero c h = absurd cc
+closed_total (Some x ∷ xs) zero c h = refl
+closed_total (None ∷ xs) (suc serial) c h = closed_total xs serial c h
+closed_total (Some x ∷ xs) (suc serial) c h = ap suc (closed_total xs serial c h)
+
+-- lists that have the same cursors have as many
+none_total : (ds : List (Option Place)) → ((t : ℕ) → cursor_at ds t ≡ None) → open_total ds ≡ 0
+none_total [] k = refl
+none_total (None ∷ ds) k = none_total ds (λ t. k (suc t))
+none_total (Some x ∷ ds) k = let i : Some x ≡ None = k 0 in absurd cc
+
+same_total : (cs ds : List (Option Place)) → ((t : ℕ) → cursor_at cs t ≡ cursor_at ds t) → open_total cs ≡ open_total ds
+same_total [] ds k = sym (none_total ds (λ t. sym (k t) ∙ none_in t))
+same_total (c ∷ cs) [] k = none_total (c ∷ cs) (λ t. k t ∙ none_in t)
+same_total (None ∷ cs) (None ∷ ds) k = same_total cs ds (λ t. k (suc t))
+same_total (None ∷ cs) (Some d ∷ ds) k = let i : None ≡ Some d = k 0 in absurd cc
+same_total (Some c ∷ cs) (None ∷ ds) k = let i : Some c ≡ None = k 0 in absurd cc
+same_total (Some c ∷ cs) (Some d ∷ ds) k = ap suc (same_total cs ds (λ t. k (suc t)))
 
 pub opened_at : (f g : Forest) (n serial : ℕ) → IsOpened f g n serial → Opened f g n None (Ok (Some serial))
 opened_at f g n serial h =
@@ -64,7 +96,7 @@ opened_at f g n serial h =
       kept = λ t c e a.
           let apart : serial ≢ t = λ i. let j : cursor_at f.cursors t ≡ None = ap (cursor_at f.cursors) (sym i) ∙ h.free in absurd cc in
           (ap (λ x. cursor_at x t) cs ∙ (with_other f.cursors serial _ t apart ∙ e), apart);
-      before = λ t c e a. ((c, sym (with_other f.cursors serial _ t a) ∙ (sym (ap (λ x. cursor_at x t) cs) ∙ e)), tt);
+      count = let i : open_total g.cursors ≡ open_total (with_cursor f.cursors serial (Some (record { container = n; passed = 0 }))) = ap open_total cs in let j = opened_total f.cursors serial (record { container = n; passed = 0 }) h.free in let k : open_total g.cursors + 0 ≡ open_total f.cursors + 1 = omega arith in k;
       seat = λ passed e. (ap (λ x. cursor_at x serial) cs ∙ (with_same f.cursors serial _ ∙ ap (λ k. Some (record { container = n; passed = k })) (sym e)), tt);
     }
 
@@ -84,7 +116,7 @@ pub opened_none : (f g : Forest) (n : ℕ) (e : TreeFault) → IsForest f → n 
 opened_none f g n e h l r i = record {
   same = record { text = ap (λ (x : Forest). x.text) i; nodes = ap (λ (x : Forest). x.nodes) i; log = ap (λ (x : Forest). x.log) i };
   kept = λ t c j a. (ap (λ (x : Forest). cursor_at x.cursors t) i ∙ j, tt);
-  before = λ t c j a. ((c, sym (ap (λ (x : Forest). cursor_at x.cursors t) i) ∙ j), tt);
+  count = ap (λ (x : Forest). open_total x.cursors + 0) i;
   seat = λ passed j. (j, no_children f n h (blockless f n e (block_of (text_of f.nodes n)) (nat_lt n (length f.nodes)) refl (lt-ltb n (length f.nodes) l) r) (children_of f.nodes n) refl);
 }
 
@@ -111,7 +143,7 @@ next_at f g serial r (Some c) h e i =
       given = subst (λ q. IfSome q (λ m. m < length f.nodes)) (sym j) (first_given f.nodes (drop c.passed (children_of f.nodes c.container)) x refl);
       dirty = subst (λ q. IfSome q (λ m. is_dirty f.nodes m ≡ true)) (sym j) (first_dirty f.nodes (drop c.passed (children_of f.nodes c.container)) x refl);
       kept = λ t d k a. ap (λ y. cursor_at y t) cs ∙ (set_other f.cursors serial (Some (passed_on c x)) t a ∙ k);
-      before = λ t d k. set_before f.cursors serial c (Some (passed_on c x)) t d h (sym (ap (λ y. cursor_at y t) cs) ∙ k);
+      count = ap open_total cs ∙ set_total f.cursors serial c (passed_on c x) h;
       child = λ n passed k u.
           let s : Some c ≡ Some (record { container = n; passed = passed }) = sym h ∙ k in
           let a : c.passed ≡ passed = cc in
@@ -129,7 +161,7 @@ refused_at f g serial x None h e i = record {
   given = tt;
   dirty = tt;
   kept = λ t d k a. ap (λ (y : Forest). cursor_at y.cursors t) i ∙ k;
-  before = λ t d k. (d, sym (ap (λ (y : Forest). cursor_at y.cursors t) i) ∙ k);
+  count = ap (λ (y : Forest). open_total y.cursors) i;
   child = λ n passed k u. (let z : None ≡ Some (record { container = n; passed = passed }) = sym h ∙ k in absurd cc);
 }
 refused_at f g serial x (Some c) h e i = absurd cc
@@ -138,27 +170,23 @@ refused_at f g serial x (Some c) h e i = absurd cc
 pub next_refused : (f g : Forest) (serial : ℕ) (x : TreeFault) → Err x ≡ next_dirty_of f serial → g ≡ after_next_dirty f serial → NextDirty f g (Some serial) None
 next_refused f g serial x e i = refused_at f g serial x (cursor_at f.cursors serial) refl e i
 
--- an open cursor is another than one that is closed
-other_open : (g : Forest) (serial t : ℕ) (c : Place) → cursor_at g.cursors serial ≡ None → cursor_at g.cursors t ≡ Some c → serial ≢ t
-other_open g serial t c n e i = let m : cursor_at g.cursors t ≡ None = ap (cursor_at g.cursors) (sym i) ∙ n in absurd cc
-
 pub closed_by : (h g : Forest) (serial : ℕ) (r : Result (Unit {0}) TreeFault) → IsCloseAnswer h g serial r → Closes h g (Some serial)
 closed_by h g serial (Ok u) k =
     let rest = k.1.rest in
     record {
       same = record { text = ap (λ (x : Forest). x.text) rest; nodes = ap (λ (x : Forest). x.nodes) rest; log = ap (λ (x : Forest). x.log) rest };
-      shut = k.1.cursors serial ∙ with_same h.cursors serial None;
-      before = λ t c e a.
-          let apart = other_open g serial t c (k.1.cursors serial ∙ with_same h.cursors serial None) e in
-          ((c, sym (with_other h.cursors serial None t apart) ∙ (sym (k.1.cursors t) ∙ e)), apart);
+      count = λ n passed s.
+          let i = same_total g.cursors (with_cursor h.cursors serial None) k.1.cursors in
+          let j = closed_total h.cursors serial (record { container = n; passed = passed }) s in
+          let l : open_total g.cursors + 1 ≡ open_total h.cursors + 0 = omega arith in
+          l;
       kept = λ t a. k.1.cursors t ∙ with_other h.cursors serial None t a;
     }
 closed_by h g serial (Err x) k =
     let i : g ≡ h = k.2 in
     record {
       same = record { text = ap (λ (x : Forest). x.text) i; nodes = ap (λ (x : Forest). x.nodes) i; log = ap (λ (x : Forest). x.log) i };
-      shut = ap (λ (x : Forest). cursor_at x.cursors serial) i ∙ k.0;
-      before = λ t c e a. ((c, sym (ap (λ (x : Forest). cursor_at x.cursors t) i) ∙ e), other_open g serial t c (ap (λ (x : Forest). cursor_at x.cursors serial) i ∙ k.0) e);
+      count = λ n passed s. (let z : None ≡ Some (record { container = n; passed = passed }) = sym k.0 ∙ s in absurd cc);
       kept = λ t a. ap (λ (x : Forest). cursor_at x.cursors t) i;
     }
 
@@ -172,7 +200,7 @@ reseated f h g n old new r passed a b s =
       c.0 ∙ ap first_of due,
       record {
         same = record { text = b.same.text ∙ a.same.text; nodes = b.same.nodes ∙ a.same.nodes; log = b.same.log ∙ a.same.log };
-        before = λ serial d e u. let k = b.before serial d e in a.before serial k.0 k.1 u;
+        count = let i : open_total h.cursors + held_by old ≡ open_total f.cursors + held_by new = a.count in let j : open_total g.cursors ≡ open_total h.cursors = b.count in let k : open_total g.cursors + held_by old ≡ open_total f.cursors + held_by new = omega arith in k;
         kept = λ serial d e u. let k = a.kept serial d e u in (b.kept serial d k.0 k.1, k.1);
         seat = subst (λ x. IsSeated g.cursors new n (passed_with passed x)) due c.1;
       },

@@ -26,7 +26,8 @@ use Rattle.visitor_machine.specs.Hooks.{hooks_at}
 use Rattle.visitor_walk.specs.declared.turn.Open.{Open}
 use Rattle.visitor_walk.specs.declared.turn.Due.{Due}
 use Rattle.visitor_walk.specs.declared.turn.Next.{Next}
-use Rattle.visitor_walk.specs.Turns.{IsSeated, Apart, AllApart, AreOthers, IsShown, AllShown, Shows, IsPass, IsPlain, Strolls, Turned, due_child, passed_with, SameBeside, Opened, NextDirty, Leaves, Enters, fresh, Reseats, IsLess, IsSure, AllSure, dirty_total, nodes_through}
+use Rattle.plugin_api.specs.Open.{open_total}
+use Rattle.visitor_walk.specs.Turns.{IsSeated, Apart, AllApart, AreOthers, IsShown, AllShown, held_by, held, Shows, IsPass, IsPlain, Strolls, Turned, due_child, passed_with, SameBeside, Opened, NextDirty, Leaves, Enters, fresh, Reseats, IsLess, IsSure, AllSure, dirty_total, nodes_through}
 
 pub reverse_last : {A : Type 0} (xs : List A) (x : A) → reverse (xs ++ x ∷ []) ≡ x ∷ reverse xs
 reverse_last xs x = reverse-append xs (x ∷ [])
@@ -151,7 +152,7 @@ grouped hooks hs xs e d g i j = ap shown_hooks (i ∙ ap (group_of hooks) j) ∙
 pub same_seat : (f : Forest) (old : Option ℕ) (n passed : ℕ) → IsSeated f.cursors old n passed → Reseats f f old old n passed
 same_seat f old n passed s = record {
   same = record { text = refl; nodes = refl; log = refl };
-  before = λ serial c e a. ((c, e), a);
+  count = refl;
   kept = λ serial c e a. (e, a);
   seat = s;
 }
@@ -236,7 +237,7 @@ module _ (hs : List PickedHook) (most : ℕ) (f : Forest) (o : Open) (os : List 
         frames = subst (λ fs. AllShown g.cursors os (outer fs)) (sym top.frames) (below_kept h.cursors g.cursors p.children os top.rest (others_still h p.children passed r) (λ serial c i a. l.kept serial a ∙ i) (below_still h p.children passed r));
         sure = subst (λ ns. AllSure ns s.edits os) (sym (l.nodes ∙ r.same.nodes)) w.sure.1;
       },
-      (record { apart = λ serial c i a. a.1; before = λ serial c i a. let k = l.before serial c i tt in let m = r.before serial k.0.0 k.0.1 k.1 in (m.0, (m.1, a)) }, refl),
+      (record { apart = λ serial c i a. a.1; count = let i : open_total g.cursors + held_by p.children ≡ open_total h.cursors + 0 = l.count o.node passed r.seat in let j : open_total h.cursors + held_by o.children ≡ open_total f.cursors + held_by p.children = r.count in let k : open_total g.cursors + (held_by o.children + held os) ≡ open_total f.cursors + held os = omega arith in k }, refl),
     ),
   )
 
@@ -257,7 +258,7 @@ module _ (hs : List PickedHook) (most : ℕ) (f : Forest) (o : Open) (os : List 
             (record { node = top.shown.node; enter = refl; exit = top.shown.exit; seat = top.shown.seat }, (top.others, top.below)));
         sure = (sure_from f.nodes s.edits (record o { enter = next.behind; sure = edits }) (sym q) t, w.sure.1);
       },
-      (record { apart = λ serial c j a. a; before = λ serial c j a. ((c, j), a) }, ap (λ m. (done hs s m).stage) e),
+      (record { apart = λ serial c j a. a; count = refl }, ap (λ m. (done hs s m).stage) e),
     ),
   )
 
@@ -278,7 +279,7 @@ module _ (hs : List PickedHook) (most : ℕ) (f : Forest) (o : Open) (os : List 
             (record { node = top.shown.node; enter = ap (λ n. length (enters hs (kind_at s.nodes n))) top.shown.node ∙ (ap (λ ns. length (enters hs (kind_at ns o.node))) w.nodes ∙ sym l); exit = refl; seat = r.seat }, (others_still h new passed_now r, below_still h new passed_now r)));
         sure = subst (λ ns. AllSure ns s.edits (record { node = o.node; enter = end; exit = next.behind; children = new; sure = edits } ∷ os)) (sym r.same.nodes) (sure_from f.nodes s.edits (record { node = o.node; enter = end; exit = next.behind; children = new; sure = edits }) (sym q) t, w.sure.1);
       },
-      (record { apart = λ serial c j a. ((r.kept serial c j a.0).1, a.1); before = λ serial c j a. let m = r.before serial c j a.0 in (m.0, (m.1, a.1)) }, ap (λ m. (done hs s m).stage) e),
+      (record { apart = λ serial c j a. ((r.kept serial c j a.0).1, a.1); count = let i : open_total h.cursors + held_by o.children ≡ open_total f.cursors + held_by new = r.count in let j : open_total h.cursors + (held_by o.children + held os) ≡ open_total f.cursors + (held_by new + held os) = omega arith in j }, ap (λ m. (done hs s m).stage) e),
     ),
   )
 
@@ -316,10 +317,12 @@ module _ (hs : List PickedHook) (most : ℕ) (f : Forest) (o : Open) (os : List 
           (
             record {
               apart = λ serial c j a. subst (λ us. AllApart us serial) (sym back) (tt, ((r.kept serial c j a.0).1, a.1));
-              before = λ serial c j a.
-                  let b : AllApart (fresh edits x.0 ∷ p ∷ os) serial = subst (λ us. AllApart us serial) back a in
-                  let m = r.before serial c (sym (ap (λ cs. cursor_at cs serial) n.cursors) ∙ j) b.1.0 in
-                  (m.0, (m.1, b.1.1));
+              count =
+                  let i : held (reverse more) ≡ 0 + (held_by new + held os) = ap held back in
+                  let j : open_total g.cursors ≡ open_total h.cursors = ap open_total n.cursors in
+                  let k : open_total h.cursors + held_by o.children ≡ open_total f.cursors + held_by new = r.count in
+                  let l : open_total g.cursors + (held_by o.children + held os) ≡ open_total f.cursors + held (reverse more) = omega arith in
+                  l;
             },
             refl,
           ),

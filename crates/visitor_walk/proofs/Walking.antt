@@ -1,9 +1,10 @@
 -- The walk through its passes.
-use Rattle.std.proofs.Common.{◌≡◌, ℕ, ◌≤◌, List, [], Option, Some, None, Result, Ok, Err, IsErr, IsSome, refl, sym, ◌∙◌, subst, arith}
+use Rattle.std.proofs.Common.{◌≡◌, ℕ, ◌+◌, ◌≤◌, List, [], Option, Some, None, Result, Ok, Err, IsErr, IsSome, refl, sym, ◌∙◌, subst, arith}
 use Rattle.std.specs.declared.alloc.AllocError.{AllocError}
 use Rattle.std.proofs.lemmas.Bool.{false≢true}
 use Rattle.node_store.specs.Forest.{Forest}
-use Rattle.plugin_api.specs.Shelf.{PluginSeen, hook_at}
+use Rattle.plugin_api.specs.Open.{open_total}
+use Rattle.plugin_api.specs.Shelf.{PluginSeen, left_total, hook_at}
 use Rattle.visitor_machine.specs.Hooks.{PickedHook}
 use Rattle.visitor_machine.specs.Machine.{Stage}
 use Rattle.visitor_machine.specs.Calls.{calls_in}
@@ -14,8 +15,8 @@ use Rattle.visitor_walk.specs.declared.spent.Spent.{Spent}
 use Rattle.visitor_walk.specs.declared.spent.Limits.{Limits}
 use Rattle.visitor_walk.specs.declared.walk_end.WalkEnd.{WalkEnd}
 use Rattle.visitor_walk.specs.declared.walk_end.WalkEnd.TheVariants.{Done}
-use Rattle.visitor_walk.specs.Turns.{Shows, IsPass, IsDue, Strolls, StayApart, Passed, AllOnShelf}
-use Rattle.visitor_walk.specs.Ran.{Ran, AreFree, AreFromBegin, Stands, IsReady, Breaks, PassesMade, in_progress}
+use Rattle.visitor_walk.specs.Turns.{held, Shows, IsPass, IsDue, Strolls, StayApart, Passed, AllOnShelf}
+use Rattle.visitor_walk.specs.Ran.{Ran, AreFree, AreCounted, Stands, IsReady, Breaks, PassesMade, in_progress}
 use Rattle.visitor_walk.proofs.Chunks as Chunks
 use Rattle.visitor_walk.proofs.Going.{strolled, some_moved}
 use Rattle.visitor_walk.proofs.Making.{ran_broken}
@@ -35,17 +36,18 @@ module _ {hs : List PickedHook} {most : ℕ} {begin f : Forest} {old new : List 
   pub free_on : (us : List Open) → StayApart f g os us → AreFree begin us
   free_on us k = λ serial c e. let d = some_moved begin.nodes t.ran.items c in k.apart serial d.0 (t.ran.cursors serial c e ∙ d.1) (t.free serial c e)
 
-  pub before_on : (us : List Open) → StayApart f g os us → calls_in ran_on.items ≡ 0 → AreFromBegin begin g us
-  before_on us k z = λ serial c e a.
-      let n : calls_in t.ran.items ≡ 0 = let b = Chunks.calls-append t.ran.items w.items in omega arith in
-      let m = k.before serial c e a in
-      t.before n serial m.0.0 m.0.1 m.1
+  pub count_on : (us : List Open) → StayApart f g os us → AreCounted begin old g new us
+  count_on us k =
+      let i : open_total f.cursors + left_total old ≡ open_total begin.cursors + left_total new + held os = t.count in
+      let j : open_total g.cursors + held os ≡ open_total f.cursors + held us = k.count in
+      let l : open_total g.cursors + left_total old ≡ open_total begin.cursors + left_total new + held us = omega arith in
+      l
 
   abbrev pub ready : (us : List Open) (due : Due) → IsDue hs g us w.state due → StayApart f g os us → IsReady hs most begin old g new spent us due
-  ready us due d k = record { ran = ran_on; is = d; free = free_on us k; before = before_on us k; calls = calls_on; edits = w.edits ∙ t.edits }
+  ready us due d k = record { ran = ran_on; is = d; free = free_on us k; count = count_on us k; calls = calls_on; edits = w.edits ∙ t.edits }
 
   abbrev pub stands_on : (us : List Open) → Shows g us w.state → StayApart f g os us → Stands hs most begin old g new spent us
-  stands_on us s k = record { ran = ran_on; shows = s; free = free_on us k; before = before_on us k; calls = calls_on; edits = w.edits ∙ t.edits }
+  stands_on us s k = record { ran = ran_on; shows = s; free = free_on us k; count = count_on us k; calls = calls_on; edits = w.edits ∙ t.edits }
 
   pub broken_on : (limits : Limits) (e : AllocError) → limits.edits ≡ most → spent.calls ≤ limits.calls → Breaks hs (record { calls = limits.calls; edits = most }) begin old g new e
   broken_on limits e i l = record { ran = ran_broken Done e refl ran_on; paid = let c = calls_on in omega arith }

@@ -48,13 +48,15 @@ abbrev pub Says : {A : Type 0} → Result A AllocError → List (List ℕ) → L
 Says (Ok _) old new more = new ≡ old ++ more
 Says (Err _) old new more = (rest : List (List ℕ)) × (new ≡ old ++ (more ++ rest))
 
--- A hook after the walk: its visitor tells and says what the items hold of it, and the rest stays.
+-- A hook after the walk: its visitor tells and says what the items hold of it, leaves no cursor open if they have no call of
+-- it, and the rest stays.
 pub record HookHeard {A : Type 0} (r : Result A AllocError) (i j at : ℕ) (items : List Item) (old new : HookSeen) : Type 0 where
   pub event : new.event ≡ old.event
   pub filter : new.filter ≡ old.filter
   pub duty : new.duty ≡ old.duty
   pub tells : Tells r old.told new.told (told_of i j at items)
   pub says : Says r old.said new.said (said_of i j false items)
+  pub left : told_of i j at items ≡ [] → new.left ≡ old.left
 
 -- a hook is there after the walk where it was before, and only there
 abbrev pub Heard : {A : Type 0} → Result A AllocError → ℕ → ℕ → ℕ → List Item → Option HookSeen → Option HookSeen → Type 0

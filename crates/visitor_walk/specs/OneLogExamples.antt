@@ -17,7 +17,7 @@ use Rattle.visitor_walk.specs.OneLog.{duty_at, SameDuties, HasDuty, EndedWalk}
 
 -- one plugin, whose one hook drops comments
 abbrev pub dropping : Option (List Told) → List (List ℕ) → List PluginSeen
-dropping told said = record { name = codes "drop"; hooks = record { event = E.Comment; filter = None; told = told; said = said; duty = Some DropComment } ∷ [] } ∷ []
+dropping told said = record { name = codes "drop"; hooks = record { event = E.Comment; filter = None; told = told; said = said; duty = Some DropComment; left = 0 } ∷ [] } ∷ []
 
 -- `/*a*/`
 abbrev pub commented : List Node

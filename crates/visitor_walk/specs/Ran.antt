@@ -1,12 +1,13 @@
 -- What a walk has done so far.
-use Rattle.std.specs.Prelude.{◌≡◌, ℕ, ◌≤◌, List, [], ◌∷◌, ◌++◌, Bool, length, Option, Some, None, Result, Ok, Err, true, false, nat_lt, filter, if◌then◌else◌}
+use Rattle.std.specs.Prelude.{◌≡◌, ℕ, ◌+◌, ◌≤◌, List, [], ◌∷◌, ◌++◌, Bool, length, Option, Some, None, Result, Ok, Err, true, false, nat_lt, filter, if◌then◌else◌}
 use Rattle.std.specs.declared.alloc.AllocError.{AllocError}
 use Rattle.node_store.specs.declared.item.Edit.{Edit}
 use Rattle.node_store.specs.declared.item.Event.TheVariants as E
 use Rattle.node_store.specs.declared.item.Item.{Item}
 use Rattle.node_store.specs.declared.item.Item.TheVariants as I
 use Rattle.node_store.specs.Forest.{Forest, Place, cursor_at}
-use Rattle.plugin_api.specs.Shelf.{PluginSeen, hook_at}
+use Rattle.plugin_api.specs.Open.{open_total}
+use Rattle.plugin_api.specs.Shelf.{PluginSeen, hook_at, left_total}
 use Rattle.visitor_machine.specs.Hooks.{PickedHook, is_at}
 use Rattle.visitor_machine.specs.Machine.{Stage, State, Opening, turn, closing}
 use Rattle.visitor_machine.specs.Follow.{step, follow, start}
@@ -20,7 +21,7 @@ use Rattle.visitor_walk.specs.declared.walk_end.WalkEnd.TheVariants.{Done, Faile
 use Rattle.node_store.specs.declared.item.Moment.{Moment}
 use Rattle.visitor_walk.specs.Heard.{Hears, came_back, duty_of}
 use Rattle.visitor_walk.specs.Walk.{moved_through, Ends}
-use Rattle.visitor_walk.specs.Turns.{AllApart, Shows, IsDue, IsOpenAt, nodes_through}
+use Rattle.visitor_walk.specs.Turns.{AllApart, AreOpen, Shows, IsDue, held, nodes_through}
 
 -- the edits that stand first, and what stands behind them
 abbrev pub first_edits : List Item → List Edit
@@ -58,9 +59,9 @@ pub record Ran {A : Type 0} (r : Result A AllocError) (hs : List PickedHook) (mo
 abbrev pub AreFree : Forest → List Open → Type 0
 AreFree begin os = (serial : ℕ) (c : Place) → cursor_at begin.cursors serial ≡ Some c → AllApart os serial
 
--- each open cursor that isn't of the visits was open at the beginning
-abbrev pub AreFromBegin : Forest → Forest → List Open → Type 0
-AreFromBegin begin now os = (serial : ℕ) (c : Place) → cursor_at now.cursors serial ≡ Some c → AllApart os serial → IsOpenAt begin serial
+-- beside the cursors of the visits as many more are open than at the beginning as the visitors left since
+abbrev pub AreCounted : Forest → List PluginSeen → Forest → List PluginSeen → List Open → Type 0
+AreCounted begin old now new os = open_total now.cursors + left_total old ≡ open_total begin.cursors + left_total new + held os
 
 abbrev pub ended : WalkEnd → Result WalkEnd AllocError
 ended end = Ok end
@@ -76,7 +77,7 @@ pub record Stands (hs : List PickedHook) (most : ℕ) (begin : Forest) (old : Li
   pub ran : Ran in_progress hs most begin old now new
   pub shows : Shows now os ran.state
   pub free : AreFree begin os
-  pub before : calls_in ran.items ≡ 0 → AreFromBegin begin now os
+  pub count : AreCounted begin old now new os
   pub calls : calls_in ran.items ≡ spent.calls
   pub edits : ran.state.edits ≡ spent.edits
 
@@ -85,15 +86,16 @@ pub record IsReady (hs : List PickedHook) (most : ℕ) (begin : Forest) (old : L
   pub ran : Ran in_progress hs most begin old now new
   pub is : IsDue hs now os ran.state due
   pub free : AreFree begin os
-  pub before : calls_in ran.items ≡ 0 → AreFromBegin begin now os
+  pub count : AreCounted begin old now new os
   pub calls : calls_in ran.items ≡ spent.calls
   pub edits : ran.state.edits ≡ spent.edits
 
--- the walk is at its end, where these visits are open
+-- the walk is at its end, where these visits are open, with their cursors
 pub record Finishes (hs : List PickedHook) (limits : Limits) (begin : Forest) (old : List PluginSeen) (now : Forest) (new : List PluginSeen) (os : List Open) (end : WalkEnd) : Type 0 where
   pub ran : Ran (ended end) hs limits.edits begin old now new
   pub ends : Ends end hs limits.calls limits.edits ran.state ran.items
-  pub before : calls_in ran.items ≡ 0 → AreFromBegin begin now os
+  pub shown : AreOpen now.cursors os
+  pub count : AreCounted begin old now new os
   pub paid : calls_in ran.items ≤ limits.calls
 
 -- memory is wanting

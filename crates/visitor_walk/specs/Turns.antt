@@ -19,6 +19,7 @@ use Rattle.visitor_walk.specs.declared.turn.Next.{Next}
 use Rattle.visitor_walk.specs.declared.hooks.RunHook.{RunHook}
 use Rattle.visitor_walk.specs.declared.hooks.RunHooks.{RunHooks}
 use Rattle.visitor_walk.specs.Groups.{shown_hooks, group_of}
+use Rattle.plugin_api.specs.Open.{open_total}
 use Rattle.plugin_api.specs.Shelf.{PluginSeen, hook_at}
 use Rattle.node_store.specs.declared.item.Event.{Event}
 
@@ -36,6 +37,16 @@ abbrev pub AllApart : List Open → ℕ → Type 0
 AllApart [] serial = Unit {0}
 AllApart (o ∷ os) serial = Apart o.children serial × AllApart os serial
 
+-- how many cursors a visit has
+abbrev pub held_by : Option ℕ → ℕ
+held_by None = 0
+held_by (Some serial) = 1
+
+-- how many the visits have
+abbrev pub held : List Open → ℕ
+held [] = 0
+held (o ∷ os) = held_by o.children + held os
+
 -- the visits have other cursors
 abbrev pub AreOthers : Option ℕ → List Open → Type 0
 AreOthers None os = Unit {0}
@@ -52,6 +63,10 @@ abbrev pub AllShown : List (Option Place) → List Open → List Frame → Type 
 AllShown cs [] [] = Unit {0}
 AllShown cs (o ∷ os) (f ∷ fs) = IsShown cs o f × (AreOthers o.children os × AllShown cs os fs)
 AllShown cs _ _ = ⊥
+
+-- the cursors of the visits are open
+abbrev pub AreOpen : List (Option Place) → List Open → Type 0
+AreOpen cs os = (fs : List Frame) × AllShown cs os fs
 
 -- A visit was known to be in the tree at no later edit than the last, and where it was at the last, its node is in the tree.
 pub record IsSure (ns : List Node) (edits : ℕ) (o : Open) : Type 0 where
@@ -102,18 +117,14 @@ pub record Strolls (hs : List PickedHook) (most : ℕ) (f : Forest) (os : List O
   pub edits : state.edits ≡ s.edits
   pub kept : (serial : ℕ) (c : Place) → cursor_at f.cursors serial ≡ Some c → AllApart os serial → cursor_at g.cursors serial ≡ Some c
 
--- a cursor of that serial is open
-abbrev pub IsOpenAt : Forest → ℕ → Type 0
-IsOpenAt f serial = (c : Place) × (cursor_at f.cursors serial ≡ Some c)
-
--- Cursors that were not of the visits are not of them now, and those that are open and not of them now were so before.
+-- Cursors that were not of the visits are not of them now, and as many are open beside theirs as before.
 pub record StayApart (f g : Forest) (os us : List Open) : Type 0 where
   pub apart : (serial : ℕ) (c : Place) → cursor_at f.cursors serial ≡ Some c → AllApart os serial → AllApart us serial
-  pub before : (serial : ℕ) (c : Place) → cursor_at g.cursors serial ≡ Some c → AllApart us serial → IsOpenAt f serial × AllApart os serial
+  pub count : open_total g.cursors + held os ≡ open_total f.cursors + held us
 
--- the same where one visit has another cursor
-abbrev pub IsOld : Forest → Forest → Option ℕ → Option ℕ → Type 0
-IsOld f g old new = (serial : ℕ) (c : Place) → cursor_at g.cursors serial ≡ Some c → Apart new serial → IsOpenAt f serial × Apart old serial
+-- as many are open as before, beside the cursor of a visit that has another now
+abbrev pub AsMany : Forest → Forest → Option ℕ → Option ℕ → Type 0
+AsMany f g old new = open_total g.cursors + held_by old ≡ open_total f.cursors + held_by new
 
 -- The machine makes that call next, and the visits of the code are already those after it.
 pub record IsDue (hs : List PickedHook) (g : Forest) (os : List Open) (t : State) (due : Due) : Type 0 where
@@ -153,7 +164,7 @@ IsEmptyWhere f n (Some serial) = Unit {0}
 pub record Opened (f g : Forest) (n : ℕ) (old : Option ℕ) (r : Result (Option ℕ) AllocError) : Type 0 where
   pub same : SameBeside f g
   pub kept : (serial : ℕ) (c : Place) → cursor_at f.cursors serial ≡ Some c → Apart old serial → (cursor_at g.cursors serial ≡ Some c) × IfOk r (λ new. Apart new serial)
-  pub before : IfOk r (λ new. IsOld f g old new)
+  pub count : IfOk r (λ new. AsMany f g old new)
   pub seat : (passed : ℕ) → IsSeated f.cursors old n passed → IfOk r (λ new. IsSeated g.cursors new n passed × IsEmptyWhere f n new)
 
 -- The next dirty child of a visit is passed, where there is one.
@@ -162,7 +173,7 @@ pub record NextDirty (f g : Forest) (children r : Option ℕ) : Type 0 where
   pub given : IfSome r (λ m. m < length f.nodes)
   pub dirty : IfSome r (λ m. is_dirty f.nodes m ≡ true)
   pub kept : (serial : ℕ) (c : Place) → cursor_at f.cursors serial ≡ Some c → Apart children serial → cursor_at g.cursors serial ≡ Some c
-  pub before : (serial : ℕ) (c : Place) → cursor_at g.cursors serial ≡ Some c → IsOpenAt f serial
+  pub count : open_total g.cursors ≡ open_total f.cursors
   pub child : (n passed : ℕ) → IsSeated f.cursors children n passed → IsEmptyWhere f n children → (r ≡ first_of (due_child f.nodes n passed)) × IsSeated g.cursors children n (passed_with passed (due_child f.nodes n passed))
 
 -- the item is logged, unless memory is wanting
@@ -170,21 +181,10 @@ abbrev pub NotedOr : Result (Unit {0}) AllocError → List Item → List Item �
 NotedOr (Ok _) old new i = new ≡ old ++ i ∷ []
 NotedOr (Err _) old new i = new ≡ old
 
--- the cursor of a visit, where it has one, isn't open
-abbrev pub IsShut : List (Option Place) → Option ℕ → Type 0
-IsShut cs None = Unit {0}
-IsShut cs (Some serial) = cursor_at cs serial ≡ None
-
--- no visit has an open cursor
-abbrev pub AllShut : List (Option Place) → List Open → Type 0
-AllShut cs [] = Unit {0}
-AllShut cs (o ∷ os) = IsShut cs o.children × AllShut cs os
-
--- a cursor, where there is one, is closed, and none is opened
+-- a cursor, where there is one and it is open, is closed, and no other one
 pub record Closes (f g : Forest) (children : Option ℕ) : Type 0 where
   pub same : SameBeside f g
-  pub shut : IsShut g.cursors children
-  pub before : IsOld f g children None
+  pub count : (n passed : ℕ) → IsSeated f.cursors children n passed → AsMany f g children None
   pub kept : (serial : ℕ) → Apart children serial → cursor_at g.cursors serial ≡ cursor_at f.cursors serial
 
 -- the visit is left, and its cursor closed
@@ -193,7 +193,7 @@ pub record Leaves (f g : Forest) (o : Open) (r : Result (Unit {0}) AllocError) :
   pub nodes : g.nodes ≡ f.nodes
   pub log : NotedOr r f.log g.log (I.Leave o.node)
   pub kept : (serial : ℕ) → Apart o.children serial → cursor_at g.cursors serial ≡ cursor_at f.cursors serial
-  pub before : IfOk r (λ _. IsOld f g o.children None)
+  pub count : IfOk r (λ _. (n passed : ℕ) → IsSeated f.cursors o.children n passed → AsMany f g o.children None)
 
 -- the visit of a node that is entered, which was known to be in the tree at that edit
 abbrev pub fresh : ℕ → ℕ → Open
@@ -216,7 +216,7 @@ pub record IsNext (ns : List Node) (hooks : List RunHook) (n from : ℕ) (next :
 -- A visit has this cursor now, which stands behind so many children; all other cursors stay.
 pub record Reseats (f g : Forest) (old new : Option ℕ) (n passed : ℕ) : Type 0 where
   pub same : SameBeside f g
-  pub before : IsOld f g old new
+  pub count : AsMany f g old new
   pub kept : (serial : ℕ) (c : Place) → cursor_at f.cursors serial ≡ Some c → Apart old serial → (cursor_at g.cursors serial ≡ Some c) × Apart new serial
   pub seat : IsSeated g.cursors new n passed
 

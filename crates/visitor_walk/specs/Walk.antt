@@ -1,5 +1,5 @@
 -- What the walk does.
-use Rattle.std.specs.Prelude.{◌≡◌, ℕ, ◌*◌, ◌<◌, ◌≤◌, List, [], ◌∷◌, ◌++◌, length, map, Option, Some, None, Result, IfOk, false}
+use Rattle.std.specs.Prelude.{◌≡◌, ℕ, ◌+◌, ◌*◌, ◌<◌, ◌≤◌, List, [], ◌∷◌, ◌++◌, length, map, Option, Some, None, Result, IfOk, false}
 use Rattle.std.specs.Option.{option_map}
 use Rattle.std.specs.declared.alloc.AllocError.{AllocError}
 use Rattle.node_rows.specs.Nodes.{Node}
@@ -10,7 +10,8 @@ use Rattle.node_store.specs.declared.item.Item.TheVariants as I
 use Rattle.node_store.specs.declared.item.Moment.{Moment}
 use Rattle.node_store.specs.Forest.{Forest, Place, cursor_at}
 use Rattle.node_store.specs.Edits.{apply, moved_place}
-use Rattle.plugin_api.specs.Shelf.{PluginSeen}
+use Rattle.plugin_api.specs.Open.{open_total}
+use Rattle.plugin_api.specs.Shelf.{PluginSeen, left_total}
 use Rattle.visitor_machine.specs.Hooks.{PickedHook}
 use Rattle.visitor_machine.specs.Machine.{State, Ended, next}
 use Rattle.visitor_machine.specs.Follow.{follow, start}
@@ -55,12 +56,12 @@ abbrev pub IsSettledAfter : WalkEnd → List PickedHook → ℕ → List Node �
 IsSettledAfter Done hs most ns items = IsAllDirty ns → SettlesAt hs most ns items
 IsSettledAfter _ hs most ns items = Unit {0}
 
--- no cursor is open after that wasn't open before
-abbrev pub OpensNone : Forest → Forest → Type 0
-OpensNone before after = (serial : ℕ) → cursor_at before.cursors serial ≡ None → cursor_at after.cursors serial ≡ None
+-- As many cursors more are open after as the visitors left, and no others: those of the walk are closed.
+abbrev pub ClosesOwn : Forest → Forest → List PluginSeen → List PluginSeen → Type 0
+ClosesOwn before after old new = open_total after.cursors + left_total old ≡ open_total before.cursors + left_total new
 
--- The walk logs a run of the machine from the forest before, and leaves what the run reaches. Its own cursors are closed; that
--- can be said of a walk without calls alone, since a visitor may leave cursors open.
+-- The walk logs a run of the machine from the forest before, and leaves what the run reaches. Its own cursors are closed,
+-- whatever the visitors leave open. After want of memory they may stay open.
 pub record Walks (before after : Forest) (old new : List PluginSeen) (picked : List ℕ) (budget most : ℕ) (r : Result WalkEnd AllocError) : Type 0 where
   pub items : List Item
   pub state : State
@@ -69,7 +70,7 @@ pub record Walks (before after : Forest) (old new : List PluginSeen) (picked : L
   pub run : follow (picked_hooks old picked) most (start (picked_hooks old picked) before.nodes) items ≡ Some state
   pub nodes : after.nodes ≡ state.nodes
   pub cursors : (serial : ℕ) (c : Place) → cursor_at before.cursors serial ≡ Some c → cursor_at after.cursors serial ≡ moved_through before.nodes items (Some c)
-  pub closed : IfOk r (λ end. calls_in items ≡ 0 → OpensNone before after)
+  pub closed : IfOk r (λ end. ClosesOwn before after old new)
   pub paid : calls_in items ≤ budget
   pub hears : Hears r (length before.log) items old new
   pub duties : KeepDuties old (picked_hooks old picked) most before.nodes items

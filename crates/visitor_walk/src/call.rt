@@ -20,8 +20,8 @@ pub fn call(
     shelf: &mut Vec<Plugin>,
     due: Due,
 ) -> Result<Option<Txt>, AllocError>
-    requires { IsSome (hook_at (shelf_seen (λ b. (⟦<dyn Visitor as Visitor>⟧ b.vtable).told b.value) (λ b. (⟦<dyn Visitor as Visitor>⟧ b.vtable).said b.value) (λ b. (⟦<dyn Visitor as Visitor>⟧ b.vtable).duty b.value) shelf.old.items) due.plugin due.hook) }
-    ensures { let seen = shelf_seen (λ b. (⟦<dyn Visitor as Visitor>⟧ b.vtable).told b.value) (λ b. (⟦<dyn Visitor as Visitor>⟧ b.vtable).said b.value) (λ b. (⟦<dyn Visitor as Visitor>⟧ b.vtable).duty b.value) in
+    requires { IsSome (hook_at (shelf_seen (λ b. (⟦<dyn Visitor as Visitor>⟧ b.vtable).told b.value) (λ b. (⟦<dyn Visitor as Visitor>⟧ b.vtable).said b.value) (λ b. (⟦<dyn Visitor as Visitor>⟧ b.vtable).duty b.value) (λ b. (⟦<dyn Visitor as Visitor>⟧ b.vtable).left b.value) shelf.old.items) due.plugin due.hook) }
+    ensures { let seen = shelf_seen (λ b. (⟦<dyn Visitor as Visitor>⟧ b.vtable).told b.value) (λ b. (⟦<dyn Visitor as Visitor>⟧ b.vtable).said b.value) (λ b. (⟦<dyn Visitor as Visitor>⟧ b.vtable).duty b.value) (λ b. (⟦<dyn Visitor as Visitor>⟧ b.vtable).left b.value) in
         Called work.old work.new (seen shelf.old.items) (seen shelf.new.items) due result }
 {
     work.note(Item::Call {

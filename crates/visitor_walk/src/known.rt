@@ -112,6 +112,10 @@ fn kept(work: &Work, before: &Before, edits: u64, mut visit: Open) -> Open
     requires { before.now.items ≤ length work.now.log }
     ensures { result ≡ kept work.now before.now edits visit }
 {
+    // Without an edit it is known as before.
+    if visit.sure == edits {
+        return visit;
+    }
     let node = visit.node;
     if visit.sure == before.edits
         && (lost_its_own(work, before.items, before.at, node)

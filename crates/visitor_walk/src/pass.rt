@@ -2,11 +2,12 @@
 ghost use Rattle.std.specs.Prelude.{◌≡◌, ℕ, ◌+◌, ◌<◌, ◌≤◌, ◌*◌, List, [], reverse, length, IfOk, IfSome, true, vec_len, suc};
 ghost use Rattle.node_rows.specs.Nodes.{is_dirty};
 ghost use Rattle.visitor_machine.specs.Hooks.{PickedHook};
-ghost use Rattle.visitor_machine.specs.Machine.{State};
+ghost use Rattle.visitor_machine.specs.Machine.{State, Frame};
 ghost use Rattle.plugin_api.specs.Shelf.{PluginSeen};
 ghost use Rattle.visitor_walk.specs.Groups.{IsGrouped};
 ghost use Rattle.node_store.specs.Forest.{cursor_at};
-ghost use Rattle.visitor_walk.specs.Turns.{Shows, IsPass, Strolls, Advanced, Began, Passed, dirty_total, AllOnShelf, IsOnShelf, SameBeside, AllApart, AllShut};
+ghost use Rattle.visitor_walk.specs.Turns.{Shows, IsPass, Strolls, Advanced, Began, Passed, dirty_total, AllOnShelf, IsOnShelf, SameBeside, AllApart, AllShown, held};
+ghost use Rattle.plugin_api.specs.Open.{open_total};
 
 use crate::hooks::RunHooks;
 use crate::reads::is_root_dirty;
@@ -85,7 +86,7 @@ pub fn run_passes(
 /// Closes the cursors of all visits, none of which is open then.
 pub fn close_all(work: &mut Work, stack: &mut Vec<Open>)
     ensures same { SameBeside work.old work.new }
-    ensures shut { AllShut work.new.cursors (reverse stack.old.items) }
+    ensures count { (fs : List Frame) → AllShown work.old.cursors (reverse stack.old.items) fs → open_total work.new.cursors + held (reverse stack.old.items) ≡ open_total work.old.cursors }
     ensures kept { (serial : ℕ) → AllApart (reverse stack.old.items) serial → cursor_at work.new.cursors serial ≡ cursor_at work.old.cursors serial }
 {
     while let Some(visit) = stack.pop() {

@@ -59,16 +59,16 @@ fn make_call(
 ) -> Result<Option<WalkEnd>, AllocError>
     requires calls { spent.old.calls ≤ limits.calls }
     requires edits { spent.old.edits ≤ length work.old.log }
-    requires on_shelf { let seen = shelf_seen (λ b. (⟦<dyn Visitor as Visitor>⟧ b.vtable).told b.value) (λ b. (⟦<dyn Visitor as Visitor>⟧ b.vtable).said b.value) (λ b. (⟦<dyn Visitor as Visitor>⟧ b.vtable).duty b.value) in
+    requires on_shelf { let seen = shelf_seen (λ b. (⟦<dyn Visitor as Visitor>⟧ b.vtable).told b.value) (λ b. (⟦<dyn Visitor as Visitor>⟧ b.vtable).said b.value) (λ b. (⟦<dyn Visitor as Visitor>⟧ b.vtable).duty b.value) (λ b. (⟦<dyn Visitor as Visitor>⟧ b.vtable).left b.value) in
         IsSome (hook_at (seen shelf.old.items) due.plugin due.hook) }
-    ensures made { let seen = shelf_seen (λ b. (⟦<dyn Visitor as Visitor>⟧ b.vtable).told b.value) (λ b. (⟦<dyn Visitor as Visitor>⟧ b.vtable).said b.value) (λ b. (⟦<dyn Visitor as Visitor>⟧ b.vtable).duty b.value) in
+    ensures made { let seen = shelf_seen (λ b. (⟦<dyn Visitor as Visitor>⟧ b.vtable).told b.value) (λ b. (⟦<dyn Visitor as Visitor>⟧ b.vtable).said b.value) (λ b. (⟦<dyn Visitor as Visitor>⟧ b.vtable).duty b.value) (λ b. (⟦<dyn Visitor as Visitor>⟧ b.vtable).left b.value) in
         (hs : List PickedHook) (begin : Forest) (old : List PluginSeen) (os : List Open) → (r : IsReady hs limits.edits begin old work.old (seen shelf.old.items) spent.old os due) →
         Made hs limits begin old work.new (seen shelf.new.items) spent.new os (done hs r.ran.state (turn hs r.ran.state)).stage result }
     ensures calls { IfOk result (λ _. spent.new.calls ≤ limits.calls) }
     ensures edits { IfOk result (λ _. spent.new.edits ≤ length work.new.log) }
     ensures less { IfOk result (λ r. IfNone r (spent.old.calls < spent.new.calls)) }
     ensures edited { IfOk result (λ r. IfNone r (CallEdits work.old work.new)) }
-    ensures on_shelf { let seen = shelf_seen (λ b. (⟦<dyn Visitor as Visitor>⟧ b.vtable).told b.value) (λ b. (⟦<dyn Visitor as Visitor>⟧ b.vtable).said b.value) (λ b. (⟦<dyn Visitor as Visitor>⟧ b.vtable).duty b.value) in
+    ensures on_shelf { let seen = shelf_seen (λ b. (⟦<dyn Visitor as Visitor>⟧ b.vtable).told b.value) (λ b. (⟦<dyn Visitor as Visitor>⟧ b.vtable).said b.value) (λ b. (⟦<dyn Visitor as Visitor>⟧ b.vtable).duty b.value) (λ b. (⟦<dyn Visitor as Visitor>⟧ b.vtable).left b.value) in
         (i j : ℕ) → IsSome (hook_at (seen shelf.old.items) i j) → IsSome (hook_at (seen shelf.new.items) i j) }
 {
     let Due {
@@ -109,14 +109,14 @@ fn call_each(
 ) -> Result<Option<WalkEnd>, AllocError>
     requires calls { spent.old.calls ≤ limits.calls }
     requires edits { spent.old.edits ≤ length work.old.log }
-    requires on_shelf { let seen = shelf_seen (λ b. (⟦<dyn Visitor as Visitor>⟧ b.vtable).told b.value) (λ b. (⟦<dyn Visitor as Visitor>⟧ b.vtable).said b.value) (λ b. (⟦<dyn Visitor as Visitor>⟧ b.vtable).duty b.value) in
+    requires on_shelf { let seen = shelf_seen (λ b. (⟦<dyn Visitor as Visitor>⟧ b.vtable).told b.value) (λ b. (⟦<dyn Visitor as Visitor>⟧ b.vtable).said b.value) (λ b. (⟦<dyn Visitor as Visitor>⟧ b.vtable).duty b.value) (λ b. (⟦<dyn Visitor as Visitor>⟧ b.vtable).left b.value) in
         AreOnShelf (seen shelf.old.items) hooks.now }
-    ensures made { let seen = shelf_seen (λ b. (⟦<dyn Visitor as Visitor>⟧ b.vtable).told b.value) (λ b. (⟦<dyn Visitor as Visitor>⟧ b.vtable).said b.value) (λ b. (⟦<dyn Visitor as Visitor>⟧ b.vtable).duty b.value) in
+    ensures made { let seen = shelf_seen (λ b. (⟦<dyn Visitor as Visitor>⟧ b.vtable).told b.value) (λ b. (⟦<dyn Visitor as Visitor>⟧ b.vtable).said b.value) (λ b. (⟦<dyn Visitor as Visitor>⟧ b.vtable).duty b.value) (λ b. (⟦<dyn Visitor as Visitor>⟧ b.vtable).left b.value) in
         (hs : List PickedHook) (begin : Forest) (old : List PluginSeen) (closes : Bool) → (s : Stands hs limits.edits begin old work.old (seen shelf.old.items) spent.old []) → AreLeft hs closes s.ran.state (shown_hooks hooks.now) →
         EachMade hs limits begin old work.new (seen shelf.new.items) spent.new closes result }
     ensures calls { IfOk result (λ _. spent.new.calls ≤ limits.calls) }
     ensures edits { IfOk result (λ _. spent.new.edits ≤ length work.new.log) }
-    ensures on_shelf { let seen = shelf_seen (λ b. (⟦<dyn Visitor as Visitor>⟧ b.vtable).told b.value) (λ b. (⟦<dyn Visitor as Visitor>⟧ b.vtable).said b.value) (λ b. (⟦<dyn Visitor as Visitor>⟧ b.vtable).duty b.value) in
+    ensures on_shelf { let seen = shelf_seen (λ b. (⟦<dyn Visitor as Visitor>⟧ b.vtable).told b.value) (λ b. (⟦<dyn Visitor as Visitor>⟧ b.vtable).said b.value) (λ b. (⟦<dyn Visitor as Visitor>⟧ b.vtable).duty b.value) (λ b. (⟦<dyn Visitor as Visitor>⟧ b.vtable).left b.value) in
         (i j : ℕ) → IsSome (hook_at (seen shelf.old.items) i j) → IsSome (hook_at (seen shelf.new.items) i j) }
 {
     for at in 0..hooks.len() {
@@ -139,14 +139,14 @@ fn call_in_passes(
 ) -> Result<Option<WalkEnd>, AllocError>
     requires calls { spent.old.calls ≤ limits.calls }
     requires edits { spent.old.edits ≤ length work.old.log }
-    requires on_shelf { let seen = shelf_seen (λ b. (⟦<dyn Visitor as Visitor>⟧ b.vtable).told b.value) (λ b. (⟦<dyn Visitor as Visitor>⟧ b.vtable).said b.value) (λ b. (⟦<dyn Visitor as Visitor>⟧ b.vtable).duty b.value) in
+    requires on_shelf { let seen = shelf_seen (λ b. (⟦<dyn Visitor as Visitor>⟧ b.vtable).told b.value) (λ b. (⟦<dyn Visitor as Visitor>⟧ b.vtable).said b.value) (λ b. (⟦<dyn Visitor as Visitor>⟧ b.vtable).duty b.value) (λ b. (⟦<dyn Visitor as Visitor>⟧ b.vtable).left b.value) in
         AllOnShelf (seen shelf.old.items) hooks.now }
-    ensures made { let seen = shelf_seen (λ b. (⟦<dyn Visitor as Visitor>⟧ b.vtable).told b.value) (λ b. (⟦<dyn Visitor as Visitor>⟧ b.vtable).said b.value) (λ b. (⟦<dyn Visitor as Visitor>⟧ b.vtable).duty b.value) in
+    ensures made { let seen = shelf_seen (λ b. (⟦<dyn Visitor as Visitor>⟧ b.vtable).told b.value) (λ b. (⟦<dyn Visitor as Visitor>⟧ b.vtable).said b.value) (λ b. (⟦<dyn Visitor as Visitor>⟧ b.vtable).duty b.value) (λ b. (⟦<dyn Visitor as Visitor>⟧ b.vtable).left b.value) in
         (hs : List PickedHook) (begin : Forest) (old : List PluginSeen) → IsGrouped hooks.now hs → (s : Stands hs limits.edits begin old work.old (seen shelf.old.items) spent.old []) → IsPass hs s.ran.state.stage →
         PassesMade hs limits begin old work.new (seen shelf.new.items) spent.new result }
     ensures calls { IfOk result (λ _. spent.new.calls ≤ limits.calls) }
     ensures edits { IfOk result (λ _. spent.new.edits ≤ length work.new.log) }
-    ensures on_shelf { let seen = shelf_seen (λ b. (⟦<dyn Visitor as Visitor>⟧ b.vtable).told b.value) (λ b. (⟦<dyn Visitor as Visitor>⟧ b.vtable).said b.value) (λ b. (⟦<dyn Visitor as Visitor>⟧ b.vtable).duty b.value) in
+    ensures on_shelf { let seen = shelf_seen (λ b. (⟦<dyn Visitor as Visitor>⟧ b.vtable).told b.value) (λ b. (⟦<dyn Visitor as Visitor>⟧ b.vtable).said b.value) (λ b. (⟦<dyn Visitor as Visitor>⟧ b.vtable).duty b.value) (λ b. (⟦<dyn Visitor as Visitor>⟧ b.vtable).left b.value) in
         IfOk result (λ _. AllOnShelf (seen shelf.new.items) hooks.now) }
 {
     let mut stack = Vec::new(alloc);
@@ -178,7 +178,7 @@ pub fn walk(
     requires places { All (λ place. place < vec_len shelf.old) picked.now }
     requires few { vec_len shelf.old < 4294967296 }
     requires hooks_few { AreFew shelf.old.items }
-    ensures { let seen = shelf_seen (λ b. (⟦<dyn Visitor as Visitor>⟧ b.vtable).told b.value) (λ b. (⟦<dyn Visitor as Visitor>⟧ b.vtable).said b.value) (λ b. (⟦<dyn Visitor as Visitor>⟧ b.vtable).duty b.value) in
+    ensures { let seen = shelf_seen (λ b. (⟦<dyn Visitor as Visitor>⟧ b.vtable).told b.value) (λ b. (⟦<dyn Visitor as Visitor>⟧ b.vtable).said b.value) (λ b. (⟦<dyn Visitor as Visitor>⟧ b.vtable).duty b.value) (λ b. (⟦<dyn Visitor as Visitor>⟧ b.vtable).left b.value) in
         Walks work.old work.new (seen shelf.old.items) (seen shelf.new.items) picked.now budget edit_budget result }
 {
     work.facts();

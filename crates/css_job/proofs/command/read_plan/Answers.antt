@@ -13,7 +13,7 @@ empty_block_warnings-requires-clause-read g c = fresh_reads c.args.work c.facts.
 pub returns-in_ok-warnings-in-Lint : goal.returns-in_ok-warnings-in-Lint
 unfolding text_plan
 returns-in_ok-warnings-in-Lint g c =
-    let old = shelf_seen (λ b. (goal.Visitor-dyn g (b.vtable, b.value)).told b.value) (λ b. (goal.Visitor-dyn g (b.vtable, b.value)).said b.value) (λ b. (goal.Visitor-dyn g (b.vtable, b.value)).duty b.value) c.args.shelf.now.items in
+    let old = shelf_seen (λ b. (goal.Visitor-dyn g (b.vtable, b.value)).told b.value) (λ b. (goal.Visitor-dyn g (b.vtable, b.value)).said b.value) (λ b. (goal.Visitor-dyn g (b.vtable, b.value)).duty b.value) (λ b. (goal.Visitor-dyn g (b.vtable, b.value)).left b.value) c.args.shelf.now.items in
     of_command c.lint.result c.args.command Lint old old c.args.work.text c.in-Lint.is
     (of_lint c.lint.result old c.args.work.text (tree_of c.args.work) (reported (map warning_seen c.deref.result.now)) (fresh_reads c.args.work c.facts.ensures c.requires.fresh)
     (ap (λ z. reported (map warning_seen z)) c.deref.ensures.value ∙ ap reported c.in_ok-warnings-in-Lint.ensures) c.lint.ensures)

@@ -10,8 +10,8 @@ use Rattle.css_job.proofs.command.transform.Goals as goal
 pub returns-in_err-end : goal.returns-in_err-end
 returns-in_err-end g c =
     let total = c.node_total-nodes.ensures ∙ fresh_total c.args.work c.requires.fresh in
-    let old = shelf_seen (λ b. (goal.Visitor-dyn g (b.vtable, b.value)).told b.value) (λ b. (goal.Visitor-dyn g (b.vtable, b.value)).said b.value) (λ b. (goal.Visitor-dyn g (b.vtable, b.value)).duty b.value) c.args.shelf.now.items in
-    let new = shelf_seen (λ b. (goal.Visitor-dyn g (b.vtable, b.value)).told b.value) (λ b. (goal.Visitor-dyn g (b.vtable, b.value)).said b.value) (λ b. (goal.Visitor-dyn g (b.vtable, b.value)).duty b.value) c.walk.new.shelf.items in
+    let old = shelf_seen (λ b. (goal.Visitor-dyn g (b.vtable, b.value)).told b.value) (λ b. (goal.Visitor-dyn g (b.vtable, b.value)).said b.value) (λ b. (goal.Visitor-dyn g (b.vtable, b.value)).duty b.value) (λ b. (goal.Visitor-dyn g (b.vtable, b.value)).left b.value) c.args.shelf.now.items in
+    let new = shelf_seen (λ b. (goal.Visitor-dyn g (b.vtable, b.value)).told b.value) (λ b. (goal.Visitor-dyn g (b.vtable, b.value)).said b.value) (λ b. (goal.Visitor-dyn g (b.vtable, b.value)).duty b.value) (λ b. (goal.Visitor-dyn g (b.vtable, b.value)).left b.value) c.walk.new.shelf.items in
     cut_planned c.from_residual.result (Transform (options_seen c.args.options)) old new c.args.work.text c.from_residual.ensures.0
     (cut_walk c.args.work c.walk.new.work c.facts.ensures c.requires.fresh old new (options_seen c.args.options) c.budget_for-budget.result c.budget_for-edit_budget.result (c.budget_for-budget.ensures c.requires.fresh.tree total) (c.budget_for-edit_budget.ensures c.requires.fresh.tree total)
     c.deref.result.now c.deref.ensures.value c.walk.result c.walk.ensures c.in_err-end.field-0.0 c.in_err-end.was)
@@ -19,8 +19,8 @@ returns-in_err-end g c =
 pub returns-in_err-plan : goal.returns-in_err-plan
 returns-in_err-plan g c =
     let total = c.node_total-nodes.ensures ∙ fresh_total c.args.work c.requires.fresh in
-    let old = shelf_seen (λ b. (goal.Visitor-dyn g (b.vtable, b.value)).told b.value) (λ b. (goal.Visitor-dyn g (b.vtable, b.value)).said b.value) (λ b. (goal.Visitor-dyn g (b.vtable, b.value)).duty b.value) c.args.shelf.now.items in
-    let new = shelf_seen (λ b. (goal.Visitor-dyn g (b.vtable, b.value)).told b.value) (λ b. (goal.Visitor-dyn g (b.vtable, b.value)).said b.value) (λ b. (goal.Visitor-dyn g (b.vtable, b.value)).duty b.value) c.walk.new.shelf.items in
+    let old = shelf_seen (λ b. (goal.Visitor-dyn g (b.vtable, b.value)).told b.value) (λ b. (goal.Visitor-dyn g (b.vtable, b.value)).said b.value) (λ b. (goal.Visitor-dyn g (b.vtable, b.value)).duty b.value) (λ b. (goal.Visitor-dyn g (b.vtable, b.value)).left b.value) c.args.shelf.now.items in
+    let new = shelf_seen (λ b. (goal.Visitor-dyn g (b.vtable, b.value)).told b.value) (λ b. (goal.Visitor-dyn g (b.vtable, b.value)).said b.value) (λ b. (goal.Visitor-dyn g (b.vtable, b.value)).duty b.value) (λ b. (goal.Visitor-dyn g (b.vtable, b.value)).left b.value) c.walk.new.shelf.items in
     cut_planned c.from_residual-in_err-plan.result (Transform (options_seen c.args.options)) old new c.args.work.text c.from_residual-in_err-plan.ensures.0
     (cut_plan c.args.work c.walk.new.work c.facts.ensures c.requires.fresh old new (options_seen c.args.options) c.budget_for-budget.result c.budget_for-edit_budget.result (c.budget_for-budget.ensures c.requires.fresh.tree total) (c.budget_for-edit_budget.ensures c.requires.fresh.tree total)
     c.deref.result.now c.deref.ensures.value c.walk.result c.walk.ensures c.in_ok-end.end c.in_ok-end.was)
@@ -28,7 +28,7 @@ returns-in_err-plan g c =
 pub returns : goal.returns
 returns g c =
     let total = c.node_total-nodes.ensures ∙ fresh_total c.args.work c.requires.fresh in
-    let old = shelf_seen (λ b. (goal.Visitor-dyn g (b.vtable, b.value)).told b.value) (λ b. (goal.Visitor-dyn g (b.vtable, b.value)).said b.value) (λ b. (goal.Visitor-dyn g (b.vtable, b.value)).duty b.value) c.args.shelf.now.items in
-    let new = shelf_seen (λ b. (goal.Visitor-dyn g (b.vtable, b.value)).told b.value) (λ b. (goal.Visitor-dyn g (b.vtable, b.value)).said b.value) (λ b. (goal.Visitor-dyn g (b.vtable, b.value)).duty b.value) c.walk.new.shelf.items in
+    let old = shelf_seen (λ b. (goal.Visitor-dyn g (b.vtable, b.value)).told b.value) (λ b. (goal.Visitor-dyn g (b.vtable, b.value)).said b.value) (λ b. (goal.Visitor-dyn g (b.vtable, b.value)).duty b.value) (λ b. (goal.Visitor-dyn g (b.vtable, b.value)).left b.value) c.args.shelf.now.items in
+    let new = shelf_seen (λ b. (goal.Visitor-dyn g (b.vtable, b.value)).told b.value) (λ b. (goal.Visitor-dyn g (b.vtable, b.value)).said b.value) (λ b. (goal.Visitor-dyn g (b.vtable, b.value)).duty b.value) (λ b. (goal.Visitor-dyn g (b.vtable, b.value)).left b.value) c.walk.new.shelf.items in
     planned_walk c.args.work c.walk.new.work c.facts.ensures c.requires.fresh old new (options_seen c.args.options) c.budget_for-budget.result c.budget_for-edit_budget.result (c.budget_for-budget.ensures c.requires.fresh.tree total) (c.budget_for-edit_budget.ensures c.requires.fresh.tree total)
-    c.deref.result.now c.deref.ensures.value c.walk.result c.walk.ensures c.in_ok-end.end c.in_ok-end.was c.in_ok-plan.plan c.take_log-log.result c.take_log-log.new.self c.deref-2.result.now _ c.take_log-log.ensures.log c.take_log-log.ensures.state c.deref-2.ensures.value (sym (names_seen (λ b. (goal.Visitor-dyn g (b.vtable, b.value)).told b.value) (λ b. (goal.Visitor-dyn g (b.vtable, b.value)).said b.value) (λ b. (goal.Visitor-dyn g (b.vtable, b.value)).duty b.value) c.walk.new.shelf.items)) c.in_ok-plan.ensures
+    c.deref.result.now c.deref.ensures.value c.walk.result c.walk.ensures c.in_ok-end.end c.in_ok-end.was c.in_ok-plan.plan c.take_log-log.result c.take_log-log.new.self c.deref-2.result.now _ c.take_log-log.ensures.log c.take_log-log.ensures.state c.deref-2.ensures.value (sym (names_seen (λ b. (goal.Visitor-dyn g (b.vtable, b.value)).told b.value) (λ b. (goal.Visitor-dyn g (b.vtable, b.value)).said b.value) (λ b. (goal.Visitor-dyn g (b.vtable, b.value)).duty b.value) (λ b. (goal.Visitor-dyn g (b.vtable, b.value)).left b.value) c.walk.new.shelf.items)) c.in_ok-plan.ensures

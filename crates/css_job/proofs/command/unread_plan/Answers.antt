@@ -1,4 +1,3 @@
-use Rattle.std.proofs.Common.{refl}
 use Rattle.css_job.specs.Stages.{plan_seen}
 use Rattle.css_job.proofs.Plans.{unread_transform, unread_lint}
 use Rattle.css_job.proofs.command.unread_plan.Goals as goal

@@ -1,6 +1,6 @@
 use Rattle.std.proofs.Common.{◌≡◌, ◌∙◌, ap, map, string_bytes}
 use Rattle.std.proofs.lemmas.Str.{IsUtf8-string_bytes}
-use Rattle.css_job.specs.Plan.{traced, printed}
+use Rattle.css_job.specs.Plan.{traced}
 use Rattle.css_job.specs.CommandSeen.{shelf_names}
 use Rattle.css_job.specs.Stages.{piece_of}
 use Rattle.css_job.proofs.Writes.{wrote_trace, wrote_none, wrote_printing, wrote_no_printing}

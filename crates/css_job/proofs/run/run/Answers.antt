@@ -26,31 +26,31 @@ pub returns-clause-heard : goal.returns-clause-heard
 returns-clause-heard g c = of_ended _ _ _ _ _ _ (λ e h k. k) c.run_job.ensures
 
 pub returns-clause-usage : goal.returns-clause-usage
-returns-clause-usage g c = by_names (λ b. (goal.Visitor-dyn g (b.vtable, b.value)).told b.value) (λ b. (goal.Visitor-dyn g (b.vtable, b.value)).said b.value) (λ b. (goal.Visitor-dyn g (b.vtable, b.value)).duty b.value) c.args.shelf.now.items (map word c.args.words.now) (λ k. IfOk c.run_job.result (UsageCause k)) (of_ended _ _ _ _ _ _ (λ e h k. usage _ _ _ e h) c.run_job.ensures)
+returns-clause-usage g c = by_names (λ b. (goal.Visitor-dyn g (b.vtable, b.value)).told b.value) (λ b. (goal.Visitor-dyn g (b.vtable, b.value)).said b.value) (λ b. (goal.Visitor-dyn g (b.vtable, b.value)).duty b.value) (λ b. (goal.Visitor-dyn g (b.vtable, b.value)).left b.value) c.args.shelf.now.items (map word c.args.words.now) (λ k. IfOk c.run_job.result (UsageCause k)) (of_ended _ _ _ _ _ _ (λ e h k. usage _ _ _ e h) c.run_job.ensures)
 
 pub returns-clause-read_fault : goal.returns-clause-read_fault
-returns-clause-read_fault g c = by_names (λ b. (goal.Visitor-dyn g (b.vtable, b.value)).told b.value) (λ b. (goal.Visitor-dyn g (b.vtable, b.value)).said b.value) (λ b. (goal.Visitor-dyn g (b.vtable, b.value)).duty b.value) c.args.shelf.now.items (map word c.args.words.now) (λ k. IfOk c.run_job.result (ReadCause k (moment g.S.Source g.O.Sink g.E.Sink c.args.input.now c.args.out.now c.args.err.now) (moment g.S.Source g.O.Sink g.E.Sink c.run_job.new.input c.run_job.new.out c.run_job.new.err))) (of_ended _ _ _ _ _ _ (λ e h k. read _ _ _ e h) c.run_job.ensures)
+returns-clause-read_fault g c = by_names (λ b. (goal.Visitor-dyn g (b.vtable, b.value)).told b.value) (λ b. (goal.Visitor-dyn g (b.vtable, b.value)).said b.value) (λ b. (goal.Visitor-dyn g (b.vtable, b.value)).duty b.value) (λ b. (goal.Visitor-dyn g (b.vtable, b.value)).left b.value) c.args.shelf.now.items (map word c.args.words.now) (λ k. IfOk c.run_job.result (ReadCause k (moment g.S.Source g.O.Sink g.E.Sink c.args.input.now c.args.out.now c.args.err.now) (moment g.S.Source g.O.Sink g.E.Sink c.run_job.new.input c.run_job.new.out c.run_job.new.err))) (of_ended _ _ _ _ _ _ (λ e h k. read _ _ _ e h) c.run_job.ensures)
 
 pub returns-clause-too_large : goal.returns-clause-too_large
-returns-clause-too_large g c = by_names (λ b. (goal.Visitor-dyn g (b.vtable, b.value)).told b.value) (λ b. (goal.Visitor-dyn g (b.vtable, b.value)).said b.value) (λ b. (goal.Visitor-dyn g (b.vtable, b.value)).duty b.value) c.args.shelf.now.items (map word c.args.words.now) (λ k. IfOk c.run_job.result (TooLargeCause k (moment g.S.Source g.O.Sink g.E.Sink c.args.input.now c.args.out.now c.args.err.now) (moment g.S.Source g.O.Sink g.E.Sink c.run_job.new.input c.run_job.new.out c.run_job.new.err))) (of_ended _ _ _ _ _ _ (λ e h k. too_large _ _ _ e h) c.run_job.ensures)
+returns-clause-too_large g c = by_names (λ b. (goal.Visitor-dyn g (b.vtable, b.value)).told b.value) (λ b. (goal.Visitor-dyn g (b.vtable, b.value)).said b.value) (λ b. (goal.Visitor-dyn g (b.vtable, b.value)).duty b.value) (λ b. (goal.Visitor-dyn g (b.vtable, b.value)).left b.value) c.args.shelf.now.items (map word c.args.words.now) (λ k. IfOk c.run_job.result (TooLargeCause k (moment g.S.Source g.O.Sink g.E.Sink c.args.input.now c.args.out.now c.args.err.now) (moment g.S.Source g.O.Sink g.E.Sink c.run_job.new.input c.run_job.new.out c.run_job.new.err))) (of_ended _ _ _ _ _ _ (λ e h k. too_large _ _ _ e h) c.run_job.ensures)
 
 pub returns-clause-not_utf8 : goal.returns-clause-not_utf8
-returns-clause-not_utf8 g c = by_names (λ b. (goal.Visitor-dyn g (b.vtable, b.value)).told b.value) (λ b. (goal.Visitor-dyn g (b.vtable, b.value)).said b.value) (λ b. (goal.Visitor-dyn g (b.vtable, b.value)).duty b.value) c.args.shelf.now.items (map word c.args.words.now) (λ k. IfOk c.run_job.result (NotUtf8Cause k (moment g.S.Source g.O.Sink g.E.Sink c.args.input.now c.args.out.now c.args.err.now) (moment g.S.Source g.O.Sink g.E.Sink c.run_job.new.input c.run_job.new.out c.run_job.new.err))) (of_ended _ _ _ _ _ _ (λ e h k. not_utf8 _ _ _ e h) c.run_job.ensures)
+returns-clause-not_utf8 g c = by_names (λ b. (goal.Visitor-dyn g (b.vtable, b.value)).told b.value) (λ b. (goal.Visitor-dyn g (b.vtable, b.value)).said b.value) (λ b. (goal.Visitor-dyn g (b.vtable, b.value)).duty b.value) (λ b. (goal.Visitor-dyn g (b.vtable, b.value)).left b.value) c.args.shelf.now.items (map word c.args.words.now) (λ k. IfOk c.run_job.result (NotUtf8Cause k (moment g.S.Source g.O.Sink g.E.Sink c.args.input.now c.args.out.now c.args.err.now) (moment g.S.Source g.O.Sink g.E.Sink c.run_job.new.input c.run_job.new.out c.run_job.new.err))) (of_ended _ _ _ _ _ _ (λ e h k. not_utf8 _ _ _ e h) c.run_job.ensures)
 
 pub returns-clause-syntax : goal.returns-clause-syntax
-returns-clause-syntax g c = by_names (λ b. (goal.Visitor-dyn g (b.vtable, b.value)).told b.value) (λ b. (goal.Visitor-dyn g (b.vtable, b.value)).said b.value) (λ b. (goal.Visitor-dyn g (b.vtable, b.value)).duty b.value) c.args.shelf.now.items (map word c.args.words.now) (λ k. IfOk c.run_job.result (SyntaxCause k (moment g.S.Source g.O.Sink g.E.Sink c.args.input.now c.args.out.now c.args.err.now) (moment g.S.Source g.O.Sink g.E.Sink c.run_job.new.input c.run_job.new.out c.run_job.new.err))) (of_ended _ _ _ _ _ _ (λ e h k. syntax _ _ _ e h) c.run_job.ensures)
+returns-clause-syntax g c = by_names (λ b. (goal.Visitor-dyn g (b.vtable, b.value)).told b.value) (λ b. (goal.Visitor-dyn g (b.vtable, b.value)).said b.value) (λ b. (goal.Visitor-dyn g (b.vtable, b.value)).duty b.value) (λ b. (goal.Visitor-dyn g (b.vtable, b.value)).left b.value) c.args.shelf.now.items (map word c.args.words.now) (λ k. IfOk c.run_job.result (SyntaxCause k (moment g.S.Source g.O.Sink g.E.Sink c.args.input.now c.args.out.now c.args.err.now) (moment g.S.Source g.O.Sink g.E.Sink c.run_job.new.input c.run_job.new.out c.run_job.new.err))) (of_ended _ _ _ _ _ _ (λ e h k. syntax _ _ _ e h) c.run_job.ensures)
 
 pub returns-clause-write_fault : goal.returns-clause-write_fault
-returns-clause-write_fault g c = by_names (λ b. (goal.Visitor-dyn g (b.vtable, b.value)).told b.value) (λ b. (goal.Visitor-dyn g (b.vtable, b.value)).said b.value) (λ b. (goal.Visitor-dyn g (b.vtable, b.value)).duty b.value) c.args.shelf.now.items (map word c.args.words.now) (λ k. IfOk c.run_job.result (WriteCause k (moment g.S.Source g.O.Sink g.E.Sink c.args.input.now c.args.out.now c.args.err.now) (moment g.S.Source g.O.Sink g.E.Sink c.run_job.new.input c.run_job.new.out c.run_job.new.err))) (of_ended _ _ _ _ _ _ (λ e h k. write _ _ _ e h) c.run_job.ensures)
+returns-clause-write_fault g c = by_names (λ b. (goal.Visitor-dyn g (b.vtable, b.value)).told b.value) (λ b. (goal.Visitor-dyn g (b.vtable, b.value)).said b.value) (λ b. (goal.Visitor-dyn g (b.vtable, b.value)).duty b.value) (λ b. (goal.Visitor-dyn g (b.vtable, b.value)).left b.value) c.args.shelf.now.items (map word c.args.words.now) (λ k. IfOk c.run_job.result (WriteCause k (moment g.S.Source g.O.Sink g.E.Sink c.args.input.now c.args.out.now c.args.err.now) (moment g.S.Source g.O.Sink g.E.Sink c.run_job.new.input c.run_job.new.out c.run_job.new.err))) (of_ended _ _ _ _ _ _ (λ e h k. write _ _ _ e h) c.run_job.ensures)
 
 pub returns-clause-status : goal.returns-clause-status
-returns-clause-status g c = by_names (λ b. (goal.Visitor-dyn g (b.vtable, b.value)).told b.value) (λ b. (goal.Visitor-dyn g (b.vtable, b.value)).said b.value) (λ b. (goal.Visitor-dyn g (b.vtable, b.value)).duty b.value) c.args.shelf.now.items (map word c.args.words.now) (λ k. IfOk c.run_job.result (StatusCause k)) (of_ended _ _ _ _ _ _ (λ e h k. status _ _ _ e h) c.run_job.ensures)
+returns-clause-status g c = by_names (λ b. (goal.Visitor-dyn g (b.vtable, b.value)).told b.value) (λ b. (goal.Visitor-dyn g (b.vtable, b.value)).said b.value) (λ b. (goal.Visitor-dyn g (b.vtable, b.value)).duty b.value) (λ b. (goal.Visitor-dyn g (b.vtable, b.value)).left b.value) c.args.shelf.now.items (map word c.args.words.now) (λ k. IfOk c.run_job.result (StatusCause k)) (of_ended _ _ _ _ _ _ (λ e h k. status _ _ _ e h) c.run_job.ensures)
 
 pub returns-clause-css_syntax_error : goal.returns-clause-css_syntax_error
-returns-clause-css_syntax_error g c = by_names (λ b. (goal.Visitor-dyn g (b.vtable, b.value)).told b.value) (λ b. (goal.Visitor-dyn g (b.vtable, b.value)).said b.value) (λ b. (goal.Visitor-dyn g (b.vtable, b.value)).duty b.value) c.args.shelf.now.items (map word c.args.words.now) (λ k. IfOk c.run_job.result (SyntaxErrorCause k (moment g.S.Source g.O.Sink g.E.Sink c.args.input.now c.args.out.now c.args.err.now) (moment g.S.Source g.O.Sink g.E.Sink c.run_job.new.input c.run_job.new.out c.run_job.new.err))) (of_ended _ _ _ _ _ _ (λ e h k. css_syntax_error _ _ _ e h) c.run_job.ensures)
+returns-clause-css_syntax_error g c = by_names (λ b. (goal.Visitor-dyn g (b.vtable, b.value)).told b.value) (λ b. (goal.Visitor-dyn g (b.vtable, b.value)).said b.value) (λ b. (goal.Visitor-dyn g (b.vtable, b.value)).duty b.value) (λ b. (goal.Visitor-dyn g (b.vtable, b.value)).left b.value) c.args.shelf.now.items (map word c.args.words.now) (λ k. IfOk c.run_job.result (SyntaxErrorCause k (moment g.S.Source g.O.Sink g.E.Sink c.args.input.now c.args.out.now c.args.err.now) (moment g.S.Source g.O.Sink g.E.Sink c.run_job.new.input c.run_job.new.out c.run_job.new.err))) (of_ended _ _ _ _ _ _ (λ e h k. css_syntax_error _ _ _ e h) c.run_job.ensures)
 
 pub returns-clause-warned : goal.returns-clause-warned
-returns-clause-warned g c = by_names (λ b. (goal.Visitor-dyn g (b.vtable, b.value)).told b.value) (λ b. (goal.Visitor-dyn g (b.vtable, b.value)).said b.value) (λ b. (goal.Visitor-dyn g (b.vtable, b.value)).duty b.value) c.args.shelf.now.items (map word c.args.words.now) (λ k. IfOk c.run_job.result (WarnedCause k (moment g.S.Source g.O.Sink g.E.Sink c.args.input.now c.args.out.now c.args.err.now) (moment g.S.Source g.O.Sink g.E.Sink c.run_job.new.input c.run_job.new.out c.run_job.new.err))) (of_ended _ _ _ _ _ _ (λ e h k. warned _ _ _ e h) c.run_job.ensures)
+returns-clause-warned g c = by_names (λ b. (goal.Visitor-dyn g (b.vtable, b.value)).told b.value) (λ b. (goal.Visitor-dyn g (b.vtable, b.value)).said b.value) (λ b. (goal.Visitor-dyn g (b.vtable, b.value)).duty b.value) (λ b. (goal.Visitor-dyn g (b.vtable, b.value)).left b.value) c.args.shelf.now.items (map word c.args.words.now) (λ k. IfOk c.run_job.result (WarnedCause k (moment g.S.Source g.O.Sink g.E.Sink c.args.input.now c.args.out.now c.args.err.now) (moment g.S.Source g.O.Sink g.E.Sink c.run_job.new.input c.run_job.new.out c.run_job.new.err))) (of_ended _ _ _ _ _ _ (λ e h k. warned _ _ _ e h) c.run_job.ensures)
 
 pub returns-clause-unfailed : goal.returns-clause-unfailed
 returns-clause-unfailed g c = of_ended _ _ _ _ _ _ (λ e h k. unfailed _ _ _ e h) c.run_job.ensures

@@ -1,8 +1,8 @@
 use Rattle.css_parse.proofs.ListFacts.{refusal}
 use Rattle.css_parse.proofs.parse.parse.Goals as goal
 
-pub from_nodes-requires : goal.from_nodes-requires
-from_nodes-requires c = c.in-Ok.ensures.list
+pub from_list-requires : goal.from_list-requires
+from_list-requires c = c.in-Ok.ensures.list
 
 pub returns-in-Err-Fault-clause-refused : goal.returns-in-Err-Fault-clause-refused
 returns-in-Err-Fault-clause-refused c =

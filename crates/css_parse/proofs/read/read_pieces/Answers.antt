@@ -5,7 +5,7 @@ use Rattle.css_tree.specs.Pieces.{end_of}
 use Rattle.css_parse.specs.Machine.{start, answer, faulty}
 use Rattle.css_parse.specs.Model.{model, IsSmall, Advances}
 use Rattle.css_parse.proofs.Ascii.{text-length}
-use Rattle.css_parse.proofs.Loop.{Reading, at_begin, Taken, taken, ended, Broken, broken, read_end, read_stop}
+use Rattle.css_parse.proofs.Loop.{Reading, at_begin, Taken, taken, ended, Broken, broken, small-within, read_end, read_stop}
 use Rattle.css_parse.proofs.read.read_pieces.Goals as goal
 use Rattle.css_parse.proofs.read.read_pieces.Goals.{In-Ok-Some, In-Err-next}
 
@@ -30,8 +30,14 @@ step-requires c = let t = next (goal.at.step-requires c).In-Ok-Some in
       ready = t.ready;
       small = subst (λ z. IsSmall (model c.pieces.parser) z.at) (sym c.piece_in.ensures) t.small;
       longer = subst (λ z. z.at < end_of z) (sym c.piece_in.ensures) t.longer;
-      within = subst (λ z. z.at ≤ 67108864) (sym c.piece_in.ensures) (let k = t.within in omega (arith, k, c.requires.short));
+      within = subst (λ z. end_of z ≤ 67108864) (sym c.piece_in.ensures) (let k = t.within in omega (arith, k, c.requires.short));
     }
+
+pub finish-requires : goal.finish-requires
+finish-requires c = record {
+  ready = c.pieces.invariant.ready;
+  small = small-within (chars c.args.src.now) c.args.src.now c.pieces.lexer (model c.pieces.parser) c.pieces.invariant c.requires.short;
+}
 
 pub lexical-requires : goal.lexical-requires
 lexical-requires c = let k = (fault (goal.at.lexical-requires c).In-Err-next).within in omega (arith, k, c.requires.short)

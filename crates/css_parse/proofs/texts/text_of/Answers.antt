@@ -1,5 +1,4 @@
-use Rattle.std.proofs.Common.{◌≡◌, ◌++◌, [], ap, sym, ◌∙◌, subst, IfOk}
-use Rattle.std.specs.Str.{chars}
+use Rattle.std.proofs.Common.{◌≡◌, ◌++◌, ap, sym, ◌∙◌, subst, IfOk}
 use Rattle.std.proofs.lemmas.Str.{chars-nil}
 use Rattle.css_tree.specs.Pieces.{join}
 use Rattle.css_parse.proofs.FieldTexts.{rest-from}
@@ -7,7 +6,7 @@ use Rattle.css_parse.proofs.Joins.{empty_text, first_joined}
 use Rattle.css_parse.proofs.texts.text_of.Goals as goal
 
 pub returns-in-empty : goal.returns-in-empty
-returns-in-empty c = c.empty.ensures ∙ (sym chars-nil ∙ empty_text c.args.pieces.now c.in-empty.len_below)
+returns-in-empty c = subst (λ x. IfOk c.empty.result (λ t. t ≡ x)) (sym chars-nil ∙ empty_text c.args.pieces.now c.in-empty.len_below) c.empty.ensures
 
 pub returns-in_ok-text-in-len1-up : goal.returns-in_ok-text-in-len1-up
 returns-in_ok-text-in-len1-up c =

@@ -1,5 +1,8 @@
-use Rattle.sheet_tests.proofs.Answered.{answered}
+use Rattle.sheet_tests.proofs.Answered.{answered, answered_new}
 use Rattle.sheet_tests.proofs.deeds.carry_out.Goals as goal
+
+pub returns-in-MakeRule : goal.returns-in-MakeRule
+returns-in-MakeRule c = answered_new _ _ _ _ c.new_rule.ensures
 
 pub returns-in-SetProp : goal.returns-in-SetProp
 returns-in-SetProp c = answered _ _ _ _ c.set_prop.ensures

@@ -36,7 +36,7 @@ move_behind-requires-clause-rule c =
     let ok : is_ok c.set_selector.result ≡ true = search rules in
     let es = changing f.nodes (Set c.args.child F.Selector t ∷ []) in
     let made = front-ok f mid es c.set_selector.result c.set_selector.ensures ok in
-    let l = subst (SameLinks f.nodes) (sym made.nodes) (selector-links f.nodes c.args.child t) in
+    let l = subst (SameLinks f.nodes) (sym made.edited.nodes) (selector-links f.nodes c.args.child t) in
     subst (λ o. IsSome o) (sym (l.parents c.args.rule)) c.requires.rule
 
 pub move_behind-requires-clause-child : goal.move_behind-requires-clause-child
@@ -47,7 +47,7 @@ move_behind-requires-clause-child c =
     let ok : is_ok c.set_selector.result ≡ true = search rules in
     let es = changing f.nodes (Set c.args.child F.Selector t ∷ []) in
     let made = front-ok f mid es c.set_selector.result c.set_selector.ensures ok in
-    let l = subst (SameLinks f.nodes) (sym made.nodes) (selector-links f.nodes c.args.child t) in
+    let l = subst (SameLinks f.nodes) (sym made.edited.nodes) (selector-links f.nodes c.args.child t) in
     l.parents c.args.child ∙ c.requires.child
 
 pub returns : goal.returns
@@ -64,7 +64,7 @@ returns c = λ p e.
     let set = subst (λ x. MakesFront f mid (changing ns (Set m F.Selector x ∷ [])) c.set_selector.result) text c.set_selector.ensures in
     let es = changing ns (Set m F.Selector t ∷ []) in
     let made = front-ok f mid es c.set_selector.result set ok in
-    let l = subst (SameLinks ns) (sym made.nodes) (selector-links ns m t) in
+    let l = subst (SameLinks ns) (sym made.edited.nodes) (selector-links ns m t) in
     let place : place_of mid.nodes p n ≡ place_of ns p n = ap (position_or_len (nat_eq n)) (l.lists p) in
     let moved = c.move_behind.ensures p (l.parents n ∙ e) in
     let fs : ℕ → List Edit = λ i. Remove m ∷ Insert m p (suc i) ∷ [] in

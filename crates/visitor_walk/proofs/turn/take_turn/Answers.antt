@@ -1,8 +1,8 @@
-use Rattle.std.proofs.Common.{◌≡◌, ◌∙◌, ◌∷◌, refl, sym, subst, reverse}
+use Rattle.std.proofs.Common.{◌≡◌, ◌∙◌, ◌∷◌, refl, ap, sym, subst, reverse}
 use Rattle.visitor_machine.specs.Settled.{IsInTree}
 use Rattle.visitor_walk.specs.declared.turn.Open.{Open}
 use Rattle.visitor_walk.specs.Known.{shared}
-use Rattle.visitor_walk.specs.Turns.{AllApart, Shows}
+use Rattle.visitor_walk.specs.Turns.{AllApart, Shows, held}
 use Rattle.visitor_walk.proofs.Growing as Growing
 use Rattle.visitor_walk.proofs.Knowing as Knowing
 use Rattle.visitor_walk.proofs.Turning as Turning
@@ -28,7 +28,7 @@ returns-clause-walked c = λ hs most s gr pass w q.
     let shows = subst (λ l. Shows f (known ∷ l) s) (sym e) (Knowing.shared_now f known os s c.facts.ensures.sound (sym q) there (Knowing.known_now f top os s k q there w)) in
     Knowing.turn_as hs most f c.go_on.new.work s (top ∷ os) (known ∷ reverse c.share.new.stack.items) (reverse c.go_on.new.stack.items)
     (λ serial a. subst (λ l. AllApart (known ∷ l) serial) (sym e) (Knowing.apart_shared f.nodes top k os serial a))
-    (λ serial a. Knowing.shared_apart f.nodes top k os serial (subst (λ l. AllApart (known ∷ l) serial) e a))
+    (ap (λ l. held (known ∷ l)) e ∙ Knowing.held_shared f.nodes top k os)
     c.go_on.result (c.go_on.ensures.walked hs most s gr pass shows q there.1)
 
 pub returns-clause-less : goal.returns-clause-less

@@ -41,7 +41,7 @@ returns-in-Some-2-clause-made g c = λ hs begin old gr s p.
     let t = c.call.invariant.made hs begin old gr s p in
     let v = rw c.in-Some.is at (c.in_ok-due.ensures.walked hs c.args.limits.edits t.0.ran.state gr t.1 t.0.shows t.0.edits) in
     let r = Walking.ready t.0 v.0 os c.in-Some.due v.1.0 v.1.1.0 in
-    Closing.finished hs c.args.limits begin c.make_call.new.work c.close_all.new.work old _ os c.in-Some-2.end (rw c.in-Some-2.is at (c.in_ok-end.ensures.made hs begin old os r)) r.free c.close_all.ensures.same c.close_all.ensures.shut c.close_all.ensures.kept
+    Closing.finished hs c.args.limits begin c.make_call.new.work c.close_all.new.work old _ os c.in-Some-2.end (rw c.in-Some-2.is at (c.in_ok-end.ensures.made hs begin old os r)) r.free c.close_all.ensures.same c.close_all.ensures.count c.close_all.ensures.kept
 
 pub returns-in-Some-2-clause-edits : goal.returns-in-Some-2-clause-edits
 returns-in-Some-2-clause-edits g c = let a = c.in_ok-end.ensures.edits in let b = ap length c.close_all.ensures.same.log in omega arith

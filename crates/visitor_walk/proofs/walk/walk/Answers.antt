@@ -14,7 +14,7 @@ pub returns-in_err-hooks : goal.returns-in_err-hooks
 returns-in_err-hooks g c =
     let limits : Limits = record { calls = c.args.budget; edits = c.args.edit_budget } in
     let f = c.args.work.now in
-    let old = shelf_seen (λ b. (goal.Visitor-dyn g (b.vtable, b.value)).told b.value) (λ b. (goal.Visitor-dyn g (b.vtable, b.value)).said b.value) (λ b. (goal.Visitor-dyn g (b.vtable, b.value)).duty b.value) c.args.shelf.now.items in
+    let old = shelf_seen (λ b. (goal.Visitor-dyn g (b.vtable, b.value)).told b.value) (λ b. (goal.Visitor-dyn g (b.vtable, b.value)).said b.value) (λ b. (goal.Visitor-dyn g (b.vtable, b.value)).duty b.value) (λ b. (goal.Visitor-dyn g (b.vtable, b.value)).left b.value) c.args.shelf.now.items in
     let hs = picked_hooks old c.args.picked.now in
     Ending.walks_broken c.args.picked.now limits f f old _ c.facts.ensures c.from_residual.result c.from_residual.ensures.0 (λ e. Ending.first_broken hs limits f old e)
 
@@ -22,20 +22,20 @@ pub call_each-requires-clause-on_shelf : goal.call_each-requires-clause-on_shelf
 call_each-requires-clause-on_shelf g c =
     let limits : Limits = record { calls = c.args.budget; edits = c.args.edit_budget } in
     let f = c.args.work.now in
-    let old = shelf_seen (λ b. (goal.Visitor-dyn g (b.vtable, b.value)).told b.value) (λ b. (goal.Visitor-dyn g (b.vtable, b.value)).said b.value) (λ b. (goal.Visitor-dyn g (b.vtable, b.value)).duty b.value) c.args.shelf.now.items in
+    let old = shelf_seen (λ b. (goal.Visitor-dyn g (b.vtable, b.value)).told b.value) (λ b. (goal.Visitor-dyn g (b.vtable, b.value)).said b.value) (λ b. (goal.Visitor-dyn g (b.vtable, b.value)).duty b.value) (λ b. (goal.Visitor-dyn g (b.vtable, b.value)).left b.value) c.args.shelf.now.items in
     let hs = picked_hooks old c.args.picked.now in
     let hooks = c.in_ok-hooks.hooks in
-    let gr = Ending.grouped_seen (λ b. (goal.Visitor-dyn g (b.vtable, b.value)).told b.value) (λ b. (goal.Visitor-dyn g (b.vtable, b.value)).said b.value) (λ b. (goal.Visitor-dyn g (b.vtable, b.value)).duty b.value) hooks c.args.shelf.now.items c.args.picked.now c.in_ok-hooks.ensures in
+    let gr = Ending.grouped_seen (λ b. (goal.Visitor-dyn g (b.vtable, b.value)).told b.value) (λ b. (goal.Visitor-dyn g (b.vtable, b.value)).said b.value) (λ b. (goal.Visitor-dyn g (b.vtable, b.value)).duty b.value) (λ b. (goal.Visitor-dyn g (b.vtable, b.value)).left b.value) hooks c.args.shelf.now.items c.args.picked.now c.in_ok-hooks.ensures in
     Ending.group_there old hooks E.Once c.at-once.result.now c.at-once.ensures (Picking.all_there old c.args.picked.now hooks gr)
 
 pub returns-in_err-end : goal.returns-in_err-end
 returns-in_err-end g c =
     let limits : Limits = record { calls = c.args.budget; edits = c.args.edit_budget } in
     let f = c.args.work.now in
-    let old = shelf_seen (λ b. (goal.Visitor-dyn g (b.vtable, b.value)).told b.value) (λ b. (goal.Visitor-dyn g (b.vtable, b.value)).said b.value) (λ b. (goal.Visitor-dyn g (b.vtable, b.value)).duty b.value) c.args.shelf.now.items in
+    let old = shelf_seen (λ b. (goal.Visitor-dyn g (b.vtable, b.value)).told b.value) (λ b. (goal.Visitor-dyn g (b.vtable, b.value)).said b.value) (λ b. (goal.Visitor-dyn g (b.vtable, b.value)).duty b.value) (λ b. (goal.Visitor-dyn g (b.vtable, b.value)).left b.value) c.args.shelf.now.items in
     let hs = picked_hooks old c.args.picked.now in
     let hooks = c.in_ok-hooks.hooks in
-    let gr = Ending.grouped_seen (λ b. (goal.Visitor-dyn g (b.vtable, b.value)).told b.value) (λ b. (goal.Visitor-dyn g (b.vtable, b.value)).said b.value) (λ b. (goal.Visitor-dyn g (b.vtable, b.value)).duty b.value) hooks c.args.shelf.now.items c.args.picked.now c.in_ok-hooks.ensures in
+    let gr = Ending.grouped_seen (λ b. (goal.Visitor-dyn g (b.vtable, b.value)).told b.value) (λ b. (goal.Visitor-dyn g (b.vtable, b.value)).said b.value) (λ b. (goal.Visitor-dyn g (b.vtable, b.value)).duty b.value) (λ b. (goal.Visitor-dyn g (b.vtable, b.value)).left b.value) hooks c.args.shelf.now.items c.args.picked.now c.in_ok-hooks.ensures in
     let left = Ending.first_left hs f hooks c.at-once.result.now gr c.at-once.ensures in
     let first = Ending.first_stands hs limits.edits f old in
     Ending.walks_broken c.args.picked.now limits f c.call_each.new.work old _ c.facts.ensures c.from_residual-in_err-end.result c.from_residual-in_err-end.ensures.0 (λ e. c.in_err-end.ensures.made hs f old false first left)
@@ -44,10 +44,10 @@ pub returns-in-Some : goal.returns-in-Some
 returns-in-Some g c =
     let limits : Limits = record { calls = c.args.budget; edits = c.args.edit_budget } in
     let f = c.args.work.now in
-    let old = shelf_seen (λ b. (goal.Visitor-dyn g (b.vtable, b.value)).told b.value) (λ b. (goal.Visitor-dyn g (b.vtable, b.value)).said b.value) (λ b. (goal.Visitor-dyn g (b.vtable, b.value)).duty b.value) c.args.shelf.now.items in
+    let old = shelf_seen (λ b. (goal.Visitor-dyn g (b.vtable, b.value)).told b.value) (λ b. (goal.Visitor-dyn g (b.vtable, b.value)).said b.value) (λ b. (goal.Visitor-dyn g (b.vtable, b.value)).duty b.value) (λ b. (goal.Visitor-dyn g (b.vtable, b.value)).left b.value) c.args.shelf.now.items in
     let hs = picked_hooks old c.args.picked.now in
     let hooks = c.in_ok-hooks.hooks in
-    let gr = Ending.grouped_seen (λ b. (goal.Visitor-dyn g (b.vtable, b.value)).told b.value) (λ b. (goal.Visitor-dyn g (b.vtable, b.value)).said b.value) (λ b. (goal.Visitor-dyn g (b.vtable, b.value)).duty b.value) hooks c.args.shelf.now.items c.args.picked.now c.in_ok-hooks.ensures in
+    let gr = Ending.grouped_seen (λ b. (goal.Visitor-dyn g (b.vtable, b.value)).told b.value) (λ b. (goal.Visitor-dyn g (b.vtable, b.value)).said b.value) (λ b. (goal.Visitor-dyn g (b.vtable, b.value)).duty b.value) (λ b. (goal.Visitor-dyn g (b.vtable, b.value)).left b.value) hooks c.args.shelf.now.items c.args.picked.now c.in_ok-hooks.ensures in
     let left = Ending.first_left hs f hooks c.at-once.result.now gr c.at-once.ensures in
     let first = Ending.first_stands hs limits.edits f old in
     Ending.walks_end c.args.picked.now limits f c.call_each.new.work old _ c.facts.ensures c.in-Some.end (rw c.in-Some.is at (c.in_ok-end.ensures.made hs f old false first left))
@@ -56,20 +56,20 @@ pub call_in_passes-requires-clause-on_shelf : goal.call_in_passes-requires-claus
 call_in_passes-requires-clause-on_shelf g c =
     let limits : Limits = record { calls = c.args.budget; edits = c.args.edit_budget } in
     let f = c.args.work.now in
-    let old = shelf_seen (λ b. (goal.Visitor-dyn g (b.vtable, b.value)).told b.value) (λ b. (goal.Visitor-dyn g (b.vtable, b.value)).said b.value) (λ b. (goal.Visitor-dyn g (b.vtable, b.value)).duty b.value) c.args.shelf.now.items in
+    let old = shelf_seen (λ b. (goal.Visitor-dyn g (b.vtable, b.value)).told b.value) (λ b. (goal.Visitor-dyn g (b.vtable, b.value)).said b.value) (λ b. (goal.Visitor-dyn g (b.vtable, b.value)).duty b.value) (λ b. (goal.Visitor-dyn g (b.vtable, b.value)).left b.value) c.args.shelf.now.items in
     let hs = picked_hooks old c.args.picked.now in
     let hooks = c.in_ok-hooks.hooks in
-    let gr = Ending.grouped_seen (λ b. (goal.Visitor-dyn g (b.vtable, b.value)).told b.value) (λ b. (goal.Visitor-dyn g (b.vtable, b.value)).said b.value) (λ b. (goal.Visitor-dyn g (b.vtable, b.value)).duty b.value) hooks c.args.shelf.now.items c.args.picked.now c.in_ok-hooks.ensures in
+    let gr = Ending.grouped_seen (λ b. (goal.Visitor-dyn g (b.vtable, b.value)).told b.value) (λ b. (goal.Visitor-dyn g (b.vtable, b.value)).said b.value) (λ b. (goal.Visitor-dyn g (b.vtable, b.value)).duty b.value) (λ b. (goal.Visitor-dyn g (b.vtable, b.value)).left b.value) hooks c.args.shelf.now.items c.args.picked.now c.in_ok-hooks.ensures in
     Walking.still_on_shelf old _ hooks c.in_ok-end.ensures.on_shelf (Picking.all_there old c.args.picked.now hooks gr)
 
 pub returns-in_err-end-2 : goal.returns-in_err-end-2
 returns-in_err-end-2 g c =
     let limits : Limits = record { calls = c.args.budget; edits = c.args.edit_budget } in
     let f = c.args.work.now in
-    let old = shelf_seen (λ b. (goal.Visitor-dyn g (b.vtable, b.value)).told b.value) (λ b. (goal.Visitor-dyn g (b.vtable, b.value)).said b.value) (λ b. (goal.Visitor-dyn g (b.vtable, b.value)).duty b.value) c.args.shelf.now.items in
+    let old = shelf_seen (λ b. (goal.Visitor-dyn g (b.vtable, b.value)).told b.value) (λ b. (goal.Visitor-dyn g (b.vtable, b.value)).said b.value) (λ b. (goal.Visitor-dyn g (b.vtable, b.value)).duty b.value) (λ b. (goal.Visitor-dyn g (b.vtable, b.value)).left b.value) c.args.shelf.now.items in
     let hs = picked_hooks old c.args.picked.now in
     let hooks = c.in_ok-hooks.hooks in
-    let gr = Ending.grouped_seen (λ b. (goal.Visitor-dyn g (b.vtable, b.value)).told b.value) (λ b. (goal.Visitor-dyn g (b.vtable, b.value)).said b.value) (λ b. (goal.Visitor-dyn g (b.vtable, b.value)).duty b.value) hooks c.args.shelf.now.items c.args.picked.now c.in_ok-hooks.ensures in
+    let gr = Ending.grouped_seen (λ b. (goal.Visitor-dyn g (b.vtable, b.value)).told b.value) (λ b. (goal.Visitor-dyn g (b.vtable, b.value)).said b.value) (λ b. (goal.Visitor-dyn g (b.vtable, b.value)).duty b.value) (λ b. (goal.Visitor-dyn g (b.vtable, b.value)).left b.value) hooks c.args.shelf.now.items c.args.picked.now c.in_ok-hooks.ensures in
     let left = Ending.first_left hs f hooks c.at-once.result.now gr c.at-once.ensures in
     let first = Ending.first_stands hs limits.edits f old in
     let m = rw c.in_default.is at (c.in_ok-end.ensures.made hs f old false first left) in
@@ -80,10 +80,10 @@ pub returns-in-Some-2 : goal.returns-in-Some-2
 returns-in-Some-2 g c =
     let limits : Limits = record { calls = c.args.budget; edits = c.args.edit_budget } in
     let f = c.args.work.now in
-    let old = shelf_seen (λ b. (goal.Visitor-dyn g (b.vtable, b.value)).told b.value) (λ b. (goal.Visitor-dyn g (b.vtable, b.value)).said b.value) (λ b. (goal.Visitor-dyn g (b.vtable, b.value)).duty b.value) c.args.shelf.now.items in
+    let old = shelf_seen (λ b. (goal.Visitor-dyn g (b.vtable, b.value)).told b.value) (λ b. (goal.Visitor-dyn g (b.vtable, b.value)).said b.value) (λ b. (goal.Visitor-dyn g (b.vtable, b.value)).duty b.value) (λ b. (goal.Visitor-dyn g (b.vtable, b.value)).left b.value) c.args.shelf.now.items in
     let hs = picked_hooks old c.args.picked.now in
     let hooks = c.in_ok-hooks.hooks in
-    let gr = Ending.grouped_seen (λ b. (goal.Visitor-dyn g (b.vtable, b.value)).told b.value) (λ b. (goal.Visitor-dyn g (b.vtable, b.value)).said b.value) (λ b. (goal.Visitor-dyn g (b.vtable, b.value)).duty b.value) hooks c.args.shelf.now.items c.args.picked.now c.in_ok-hooks.ensures in
+    let gr = Ending.grouped_seen (λ b. (goal.Visitor-dyn g (b.vtable, b.value)).told b.value) (λ b. (goal.Visitor-dyn g (b.vtable, b.value)).said b.value) (λ b. (goal.Visitor-dyn g (b.vtable, b.value)).duty b.value) (λ b. (goal.Visitor-dyn g (b.vtable, b.value)).left b.value) hooks c.args.shelf.now.items c.args.picked.now c.in_ok-hooks.ensures in
     let left = Ending.first_left hs f hooks c.at-once.result.now gr c.at-once.ensures in
     let first = Ending.first_stands hs limits.edits f old in
     let m = rw c.in_default.is at (c.in_ok-end.ensures.made hs f old false first left) in
@@ -98,10 +98,10 @@ pub returns-in_err-end-3 : goal.returns-in_err-end-3
 returns-in_err-end-3 g c =
     let limits : Limits = record { calls = c.args.budget; edits = c.args.edit_budget } in
     let f = c.args.work.now in
-    let old = shelf_seen (λ b. (goal.Visitor-dyn g (b.vtable, b.value)).told b.value) (λ b. (goal.Visitor-dyn g (b.vtable, b.value)).said b.value) (λ b. (goal.Visitor-dyn g (b.vtable, b.value)).duty b.value) c.args.shelf.now.items in
+    let old = shelf_seen (λ b. (goal.Visitor-dyn g (b.vtable, b.value)).told b.value) (λ b. (goal.Visitor-dyn g (b.vtable, b.value)).said b.value) (λ b. (goal.Visitor-dyn g (b.vtable, b.value)).duty b.value) (λ b. (goal.Visitor-dyn g (b.vtable, b.value)).left b.value) c.args.shelf.now.items in
     let hs = picked_hooks old c.args.picked.now in
     let hooks = c.in_ok-hooks.hooks in
-    let gr = Ending.grouped_seen (λ b. (goal.Visitor-dyn g (b.vtable, b.value)).told b.value) (λ b. (goal.Visitor-dyn g (b.vtable, b.value)).said b.value) (λ b. (goal.Visitor-dyn g (b.vtable, b.value)).duty b.value) hooks c.args.shelf.now.items c.args.picked.now c.in_ok-hooks.ensures in
+    let gr = Ending.grouped_seen (λ b. (goal.Visitor-dyn g (b.vtable, b.value)).told b.value) (λ b. (goal.Visitor-dyn g (b.vtable, b.value)).said b.value) (λ b. (goal.Visitor-dyn g (b.vtable, b.value)).duty b.value) (λ b. (goal.Visitor-dyn g (b.vtable, b.value)).left b.value) hooks c.args.shelf.now.items c.args.picked.now c.in_ok-hooks.ensures in
     let left = Ending.first_left hs f hooks c.at-once.result.now gr c.at-once.ensures in
     let first = Ending.first_stands hs limits.edits f old in
     let m = rw c.in_default.is at (c.in_ok-end.ensures.made hs f old false first left) in
@@ -114,10 +114,10 @@ pub returns-in-Some-3 : goal.returns-in-Some-3
 returns-in-Some-3 g c =
     let limits : Limits = record { calls = c.args.budget; edits = c.args.edit_budget } in
     let f = c.args.work.now in
-    let old = shelf_seen (λ b. (goal.Visitor-dyn g (b.vtable, b.value)).told b.value) (λ b. (goal.Visitor-dyn g (b.vtable, b.value)).said b.value) (λ b. (goal.Visitor-dyn g (b.vtable, b.value)).duty b.value) c.args.shelf.now.items in
+    let old = shelf_seen (λ b. (goal.Visitor-dyn g (b.vtable, b.value)).told b.value) (λ b. (goal.Visitor-dyn g (b.vtable, b.value)).said b.value) (λ b. (goal.Visitor-dyn g (b.vtable, b.value)).duty b.value) (λ b. (goal.Visitor-dyn g (b.vtable, b.value)).left b.value) c.args.shelf.now.items in
     let hs = picked_hooks old c.args.picked.now in
     let hooks = c.in_ok-hooks.hooks in
-    let gr = Ending.grouped_seen (λ b. (goal.Visitor-dyn g (b.vtable, b.value)).told b.value) (λ b. (goal.Visitor-dyn g (b.vtable, b.value)).said b.value) (λ b. (goal.Visitor-dyn g (b.vtable, b.value)).duty b.value) hooks c.args.shelf.now.items c.args.picked.now c.in_ok-hooks.ensures in
+    let gr = Ending.grouped_seen (λ b. (goal.Visitor-dyn g (b.vtable, b.value)).told b.value) (λ b. (goal.Visitor-dyn g (b.vtable, b.value)).said b.value) (λ b. (goal.Visitor-dyn g (b.vtable, b.value)).duty b.value) (λ b. (goal.Visitor-dyn g (b.vtable, b.value)).left b.value) hooks c.args.shelf.now.items c.args.picked.now c.in_ok-hooks.ensures in
     let left = Ending.first_left hs f hooks c.at-once.result.now gr c.at-once.ensures in
     let first = Ending.first_stands hs limits.edits f old in
     let m = rw c.in_default.is at (c.in_ok-end.ensures.made hs f old false first left) in
@@ -130,10 +130,10 @@ pub returns-in_err-note : goal.returns-in_err-note
 returns-in_err-note g c =
     let limits : Limits = record { calls = c.args.budget; edits = c.args.edit_budget } in
     let f = c.args.work.now in
-    let old = shelf_seen (λ b. (goal.Visitor-dyn g (b.vtable, b.value)).told b.value) (λ b. (goal.Visitor-dyn g (b.vtable, b.value)).said b.value) (λ b. (goal.Visitor-dyn g (b.vtable, b.value)).duty b.value) c.args.shelf.now.items in
+    let old = shelf_seen (λ b. (goal.Visitor-dyn g (b.vtable, b.value)).told b.value) (λ b. (goal.Visitor-dyn g (b.vtable, b.value)).said b.value) (λ b. (goal.Visitor-dyn g (b.vtable, b.value)).duty b.value) (λ b. (goal.Visitor-dyn g (b.vtable, b.value)).left b.value) c.args.shelf.now.items in
     let hs = picked_hooks old c.args.picked.now in
     let hooks = c.in_ok-hooks.hooks in
-    let gr = Ending.grouped_seen (λ b. (goal.Visitor-dyn g (b.vtable, b.value)).told b.value) (λ b. (goal.Visitor-dyn g (b.vtable, b.value)).said b.value) (λ b. (goal.Visitor-dyn g (b.vtable, b.value)).duty b.value) hooks c.args.shelf.now.items c.args.picked.now c.in_ok-hooks.ensures in
+    let gr = Ending.grouped_seen (λ b. (goal.Visitor-dyn g (b.vtable, b.value)).told b.value) (λ b. (goal.Visitor-dyn g (b.vtable, b.value)).said b.value) (λ b. (goal.Visitor-dyn g (b.vtable, b.value)).duty b.value) (λ b. (goal.Visitor-dyn g (b.vtable, b.value)).left b.value) hooks c.args.shelf.now.items c.args.picked.now c.in_ok-hooks.ensures in
     let left = Ending.first_left hs f hooks c.at-once.result.now gr c.at-once.ensures in
     let first = Ending.first_stands hs limits.edits f old in
     let m = rw c.in_default.is at (c.in_ok-end.ensures.made hs f old false first left) in
@@ -147,10 +147,10 @@ pub returns : goal.returns
 returns g c =
     let limits : Limits = record { calls = c.args.budget; edits = c.args.edit_budget } in
     let f = c.args.work.now in
-    let old = shelf_seen (λ b. (goal.Visitor-dyn g (b.vtable, b.value)).told b.value) (λ b. (goal.Visitor-dyn g (b.vtable, b.value)).said b.value) (λ b. (goal.Visitor-dyn g (b.vtable, b.value)).duty b.value) c.args.shelf.now.items in
+    let old = shelf_seen (λ b. (goal.Visitor-dyn g (b.vtable, b.value)).told b.value) (λ b. (goal.Visitor-dyn g (b.vtable, b.value)).said b.value) (λ b. (goal.Visitor-dyn g (b.vtable, b.value)).duty b.value) (λ b. (goal.Visitor-dyn g (b.vtable, b.value)).left b.value) c.args.shelf.now.items in
     let hs = picked_hooks old c.args.picked.now in
     let hooks = c.in_ok-hooks.hooks in
-    let gr = Ending.grouped_seen (λ b. (goal.Visitor-dyn g (b.vtable, b.value)).told b.value) (λ b. (goal.Visitor-dyn g (b.vtable, b.value)).said b.value) (λ b. (goal.Visitor-dyn g (b.vtable, b.value)).duty b.value) hooks c.args.shelf.now.items c.args.picked.now c.in_ok-hooks.ensures in
+    let gr = Ending.grouped_seen (λ b. (goal.Visitor-dyn g (b.vtable, b.value)).told b.value) (λ b. (goal.Visitor-dyn g (b.vtable, b.value)).said b.value) (λ b. (goal.Visitor-dyn g (b.vtable, b.value)).duty b.value) (λ b. (goal.Visitor-dyn g (b.vtable, b.value)).left b.value) hooks c.args.shelf.now.items c.args.picked.now c.in_ok-hooks.ensures in
     let left = Ending.first_left hs f hooks c.at-once.result.now gr c.at-once.ensures in
     let first = Ending.first_stands hs limits.edits f old in
     let m = rw c.in_default.is at (c.in_ok-end.ensures.made hs f old false first left) in

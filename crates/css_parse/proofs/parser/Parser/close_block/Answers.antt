@@ -6,4 +6,4 @@ use Rattle.css_parse.proofs.parser.Parser.close_block.Goals as goal
 
 pub returns : goal.returns
 returns c =
-    c.leave.ensures ∙ (ap left c.in_ok-seal.ensures ∙ (ap (λ z. left (sealed z c.args.piece.now)) c.in_ok-give_back.ensures ∙ close-steps (model c.args.self.now) c.args.piece.now c.requires.known))
+    c.leave.ensures ∙ (ap left c.in_ok-seal.ensures ∙ (ap (λ z. left (sealed z c.args.piece.now)) c.in_ok-give_back.ensures ∙ close-steps (model c.args.self.now) c.args.piece.now c.requires.ready.known))

@@ -18,4 +18,4 @@ returns-in-Some c = let f = (goal.at.returns-in-Some c).After-fits_end in end-fa
 pub returns : goal.returns
 unfolding sealed_nodes
 returns c = let f = (goal.at.returns c).After-fits_end in
-    end_answer (model f.args.self) (sym (fitted f) ∙ c.in_default.is) c.requires.known ∙ ap done (ap sealed_nodes (sym (c.in_default-give_back.ensures)) ∙ sym c.in_default-seal_root.ensures)
+    end_answer (model f.args.self) (sym (fitted f) ∙ c.in_default.is) c.requires.ready.known ∙ ap done (ap sealed_nodes (sym (c.in_default-give_back.ensures)) ∙ sym c.in_default-seal_root.ensures)

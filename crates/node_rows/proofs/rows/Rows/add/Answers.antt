@@ -10,7 +10,7 @@ use Rattle.node_rows.proofs.rows.Rows.add.Goals as goal
 pub invariant_of-self-2 : goal.invariant_of-self-2
 invariant_of-self-2 c =
     let rs = c.self.inside.items.items in
-    let few : length rs < 33554433 = rw (← length-shown rs) (rw c.self.view_is c.requires) in
+    let few : length rs < 67108865 = rw (← length-shown rs) (rw c.self.view_is c.requires) in
     subst (λ l. IsLinked l × IsFinger (shown_rows l) c.self.inside.finger) (sym c.in_ok-push.ensures.items) (
       IsLinked-pushed rs c.self.invariant.0 c.args.text c.args.span few,
       subst (λ l. IsFinger l c.self.inside.finger) (sym (shown-pushed rs c.self.invariant.0 c.args.text c.args.span)) (IsFinger-pushed (shown_rows rs) (new_node c.args.text c.args.span) c.self.inside.finger refl c.self.invariant.1),

@@ -15,5 +15,5 @@ pub returns-then-is_err : goal.returns-then-is_err
 returns-then-is_err g c =
     let err : is_ok c.push.result ≡ false = search rules in
     rw (← c.self.view_is) (record {
-      visited = record { edits = []; edited = edited_nothing c.args.work.now; tells = inl (ap Some (unkept c.self.inside.calls.items c.push.new.self.items _ _ err c.push.ensures.items)); says = refl; keeps = refl; does = owes_all _ c.args.work.now _ _ };
+      visited = record { edits = []; edited = edited_nothing c.args.work.now; tells = inl (ap Some (unkept c.self.inside.calls.items c.push.new.self.items _ _ err c.push.ensures.items)); says = refl; keeps = refl; does = owes_all _ c.args.work.now _ _; leaves = tt };
     })
