@@ -1,6 +1,6 @@
 #!/usr/bin/env python3
 """measure.py INPUT OUTPUT WORD.. runs the words with INPUT as standard input and OUTPUT as standard output, and
-prints the wall time in seconds, the peak memory in MiB and the exit status. The best of three runs counts."""
+prints the wall time in seconds, the peak memory in MiB and the exit status. The best of five runs counts."""
 
 import os
 import sys
@@ -21,9 +21,9 @@ def once(source, target, words):
 
 
 def main():
-    """Runs the words three times."""
+    """Runs the words five times."""
     source, target, words = sys.argv[1], sys.argv[2], sys.argv[3:]
-    runs = [once(source, target, words) for _ in range(3)]
+    runs = [once(source, target, words) for _ in range(5)]
     print(f"{min(run[0] for run in runs):.3f} {max(run[1] for run in runs):.1f} {runs[0][2]}")
 
 

@@ -3,7 +3,7 @@
 #
 #   bench/parse.sh
 #
-# Prints the wall time in seconds (the best of three) and the peak memory in MiB. Kinds: ordinary CSS; `a/**//**/..`, which is
+# Prints the wall time in seconds (the best of five) and the peak memory in MiB. Kinds: ordinary CSS; `a/**//**/..`, which is
 # one word with comments behind it; `;` alone; `(` alone, which is a fault at its end; ordinary CSS on one line; and blocks that
 # stand 200 deep.
 set -u

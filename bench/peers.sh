@@ -5,7 +5,7 @@
 #
 # Takes bootstrap.css of Debian's libjs-bootstrap5 and PostCSS of Debian's node-postcss, which are installed by name where they
 # are missing and can be; else what lacks is skipped. For the sheet, and for thirty copies of it in one sheet of about 7 MB, it
-# prints the wall time (the best of three) and the peak memory of the whole processes: csswork transform, csswork lint, and
+# prints the wall time (the best of five) and the peak memory of the whole processes: csswork transform, csswork lint, and
 # PostCSS parsing and printing; then csswork with the plugins short-hex and drop-empty, and PostCSS with the same two; and the
 # ratios to PostCSS. The first outputs are compared with the input, byte for byte, and the last two with each other.
 set -u

@@ -5,6 +5,7 @@ use Rattle.std.proofs.lemmas.Bool.{ne_eqb}
 use lib.Utf8.{encode, encodes}
 use Rattle.std.proofs.lemmas.Str.{encodes-chars, IsUtf8-take, IsUtf8-drop}
 use Rattle.std.proofs.lemmas.Str.{len_utf8_bounds}
+use Rattle.std.proofs.lemmas.List.{length-take-le}
 use Rattle.std.proofs.lemmas.List.Sums.{sum_by-cons}
 use Rattle.std.specs.Char.{len_utf8}
 use Rattle.css_text.specs.declared.lexer.PieceKind.TheVariants as K
@@ -41,6 +42,9 @@ cut_at bs xs ys n u e l =
       front = chars_of (take n bs) xs (IsUtf8-take bs n u f.high) (ap (λ k. take k bs) z ∙ f.bytes);
       back = chars_of (drop n bs) ys (IsUtf8-drop bs n u f.high) b.text;
     }
+
+pub cut-size : (bs xs ys : List ℕ) (n : ℕ) → IsUtf8 bs → IsCut bs n xs ys → n ≡ byte_len xs
+cut-size bs xs ys n u c = sym (length-take-le n bs c.boundary.0) ∙ (text-length (take n bs) (IsUtf8-take bs n u c.boundary) ∙ ap byte_len c.front)
 
 -- the bytes of ASCII characters
 pub single-byte : (bs : List ℕ) (c : ℕ) → IsUtf8 bs → chars bs ≡ c ∷ [] → c < 128 → bs ≡ c ∷ []
@@ -131,9 +135,6 @@ pub hack-size : (cs : List ℕ) → byte_len (hack cs) ≡ length (hack cs)
 hack-size [] = refl
 hack-size (c ∷ []) = refl
 hack-size (c ∷ d ∷ ds) = hack_by-size c (d ∷ ds) (star_or_line c) (star-low c (star_or_line c) refl)
-
-pub hack-cut : (bs : List ℕ) (n : ℕ) → IsUtf8 bs → n ≡ length (hack (chars bs)) → IsCut bs n (hack (chars bs)) (drop (length (hack (chars bs))) (chars bs))
-hack-cut bs n u e = cut_at bs (hack (chars bs)) (drop (length (hack (chars bs))) (chars bs)) n u (sym (hack-all (chars bs))) (hack-size (chars bs) ∙ sym e)
 
 -- Dashes at the start.
 

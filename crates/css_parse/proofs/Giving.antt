@@ -1,5 +1,5 @@
 -- Blanks that are given back to a container, and its end.
-use Rattle.std.proofs.Common.{◌≡◌, ℕ, suc, zero, ◌<◌, List, [], ◌∷◌, ◌++◌, Bool, true, false, length, refl, ◌∙◌, sym, ap, append_assoc, append-nil, arith, get_or, Some}
+use Rattle.std.proofs.Common.{◌≡◌, ℕ, suc, zero, ◌+◌, ◌<◌, ◌≤◌, drop, drop-cons, add-one, subst, List, [], ◌∷◌, ◌++◌, Bool, true, false, length, refl, ◌∙◌, sym, ap, append_assoc, append-nil, arith, get_or, Some}
 use Rattle.node_rows.specs.declared.node_list.NodeAt.{NodeAt}
 use Rattle.node_rows.specs.Ends.{with_entry_block, with_entry_end}
 use Rattle.css_tree.specs.declared.node.Block.{Block}
@@ -16,6 +16,9 @@ use Rattle.css_parse.specs.declared.piece.Shape.TheVariants as FormOf
 use Rattle.css_parse.specs.Shapes.{named}
 use Rattle.css_parse.specs.Gaps.{gap_of}
 use Rattle.css_parse.specs.Machine.{flat, comment_node, leaf_node, alter, seal, seal_root, Machine, given, sealed, left, next}
+use Rattle.css_parse.specs.declared.gap.Gap.{Gap}
+use Rattle.css_parse.specs.Standing.{gap_text, IsBehind}
+use Rattle.css_parse.proofs.Standing.{gap as between, gap-more, gap-empty, behind-more, behind-empty, behind-one}
 use Rattle.css_parse.proofs.Joins.{join-nil}
 use Rattle.css_parse.proofs.MachineSteps.{alter-append, gap-join, more-gap}
 
@@ -195,3 +198,63 @@ pub sealed-root : (b : Bool) (g : List ℕ) (ns : List NodeAt) (n : ℕ) (block 
 sealed-root b g ns n block ms l eb em = em ∙ (ap (with_entry_block ns n) eb ∙ block-altered ns n b g l)
 
 pub ruleset given_steps = (given-nodes_space, given-behind_space, given-nodes_comment, given-behind_comment, given-nodes_none, given-behind_none)
+
+-- The loop over the blanks: those before the index i are given back, and the gap stands before the others.
+pub record Settling (bs : List ℕ) (j : ℕ) (ns0 : List NodeAt) (g0 : Gap) (bl : List Piece) (i : ℕ) (ns : List NodeAt) (g : Gap) : Type 0 where
+  pub nodes : given_nodes j ns0 (gap_text bs g0) bl ≡ given_nodes j ns (gap_text bs g) (drop i bl)
+  pub gap : given_behind (gap_text bs g0) bl ≡ given_behind (gap_text bs g) (drop i bl)
+  pub few : length ns ≤ length ns0 + i
+  pub more : length ns0 ≤ length ns
+  pub behind : IsBehind bs g (drop i bl)
+
+pub settling-start : (bs : List ℕ) (j : ℕ) (ns : List NodeAt) (g : Gap) (bl : List Piece) → IsBehind bs g bl → Settling bs j ns g bl 0 ns g
+settling-start bs j ns g bl h = record { nodes = refl; gap = refl; few = omega arith; more = omega arith; behind = h }
+
+next-blank : (bl : List Piece) (i : ℕ) (d : Piece) → i < length bl → d ≡ get_or bl i d → drop i bl ≡ d ∷ drop (i + 1) bl
+next-blank bl i d l e = drop-cons bl i d l ∙ ap (λ z. z ∷ drop (suc i) bl) (sym e) ∙ rw add-one refl
+
+module _ (bs : List ℕ) (j : ℕ) (ns0 : List NodeAt) (g0 : Gap) (bl : List Piece) (i : ℕ) (ns : List NodeAt) (g : Gap) (h : Settling bs j ns0 g0 bl i ns g) where
+  pub settling-space : (p : Piece) → i < length bl → p ≡ get_or bl i p → shape p ≡ Shape.space → Settling bs j ns0 g0 bl (i + 1) ns (between g.start (end_of p))
+  settling-space p l e s =
+      let d : drop i bl ≡ p ∷ drop (i + 1) bl = next-blank bl i p l e in
+      let b : IsBehind bs g (p ∷ drop (i + 1) bl) = subst (IsBehind bs g) d h.behind in
+      let t = sym (gap-more bs g p (drop (i + 1) bl) b) in
+      record {
+        nodes = h.nodes ∙ (ap (given_nodes j ns (gap_text bs g)) d ∙ (given-nodes_space j ns (gap_text bs g) p (drop (i + 1) bl) s ∙ ap (λ z. given_nodes j ns z (drop (i + 1) bl)) t));
+        gap = h.gap ∙ (ap (given_behind (gap_text bs g)) d ∙ (given-behind_space (gap_text bs g) p (drop (i + 1) bl) s ∙ ap (λ z. given_behind z (drop (i + 1) bl)) t));
+        few = omega (arith, h.few);
+        more = h.more;
+        behind = behind-more bs g p (drop (i + 1) bl) b;
+      }
+
+  pub next-comment : (p : Piece) → i < length bl → p ≡ get_or bl i p → IsBehind bs g (p ∷ [])
+  next-comment p l e = behind-one bs g p (drop (i + 1) bl) (subst (IsBehind bs g) (next-blank bl i p l e) h.behind)
+
+  pub settling-comment : (p : Piece) (ms : List NodeAt) → i < length bl → p ≡ get_or bl i p → (shape p ≡ Shape.space → ⊥) → ms ≡ ns ++ comment_node j (gap_text bs g) p ∷ []
+      → Settling bs j ns0 g0 bl (i + 1) ms (between (end_of p) (end_of p))
+  settling-comment p ms l e s m =
+      let d : drop i bl ≡ p ∷ drop (i + 1) bl = next-blank bl i p l e in
+      let b : IsBehind bs g (p ∷ drop (i + 1) bl) = subst (IsBehind bs g) d h.behind in
+      let t = sym (gap-empty bs (end_of p)) in
+      let n : length ms ≡ suc (length ns) = ap length m ∙ length-snoc ns (comment_node j (gap_text bs g) p) in
+      record {
+        nodes = h.nodes ∙ (ap (given_nodes j ns (gap_text bs g)) d ∙ (given-nodes_comment j ns (gap_text bs g) p (drop (i + 1) bl) s
+            ∙ (ap (λ z. given_nodes j z [] (drop (i + 1) bl)) (sym m) ∙ ap (λ z. given_nodes j ms z (drop (i + 1) bl)) t)));
+        gap = h.gap ∙ (ap (given_behind (gap_text bs g)) d ∙ (given-behind_comment (gap_text bs g) p (drop (i + 1) bl) s ∙ ap (λ z. given_behind z (drop (i + 1) bl)) t));
+        few = omega (arith, h.few, n);
+        more = omega (arith, h.more, n);
+        behind = behind-empty bs g p (drop (i + 1) bl) b;
+      }
+
+  -- behind the last of them
+  pub settling-end : i ≡ length bl → (ns ≡ given_nodes j ns0 (gap_text bs g0) bl) × (gap_text bs g ≡ given_behind (gap_text bs g0) bl) × IsBehind bs g []
+  settling-end e =
+      let d : drop i bl ≡ [] = ap (λ z. drop z bl) e ∙ drop_all bl in (
+        sym (h.nodes ∙ (ap (given_nodes j ns (gap_text bs g)) d ∙ given-nodes_none j ns (gap_text bs g))),
+        sym (h.gap ∙ (ap (given_behind (gap_text bs g)) d ∙ given-behind_none (gap_text bs g))),
+        subst (IsBehind bs g) d h.behind,
+      )
+    where
+      drop_all : (a : List Piece) → drop (length a) a ≡ []
+      drop_all [] = refl
+      drop_all (y ∷ a) = drop_all a

@@ -8,6 +8,7 @@ pub mod MarkPieces
 pub mod Turns
 pub mod FieldTexts
 pub mod MachineSteps
+pub mod StepFacts
 pub mod Giving
 pub mod Loop
 pub mod Listed
@@ -15,3 +16,6 @@ pub mod Order
 pub mod NodeFacts
 pub mod FaultPlaces
 pub mod ListFacts
+pub mod Standing
+pub mod NodeParts
+pub mod ParserPlaces

@@ -12,9 +12,7 @@ use Rattle.css_tree.proofs.Split.{solid, solid_by, tail}
 use Rattle.css_tree.proofs.Runs.{Told, told}
 use Rattle.css_tree.proofs.Trim.{trim-all}
 use Rattle.css_tree.proofs.Printed.{join-append}
-use Rattle.css_parse.specs.declared.turn.Step.{Step}
-use Rattle.css_parse.specs.declared.turn.Step.TheVariants as StepOf
-use Rattle.css_parse.specs.Steps.{below, opening_of, IsStep}
+use Rattle.css_parse.specs.Steps.{below, opening_of}
 use Rattle.css_parse.specs.Gaps.{gap_of}
 use Rattle.css_parse.specs.Machine.{comment_node, leaf_node, open_node, seal, seal_root, count, flat, alter, Open, top, resume, Machine, next, shut_with, opened, open_containers, faulty, done, final, answer, AllBelow, IsReady, open_of, given}
 use Rattle.css_parse.proofs.Joins.{join-nil, join-one}
@@ -383,19 +381,3 @@ pub end_answer : (s : Machine) → at_end s ≡ None → s.number < length s.nod
     → answer s [] None ≡ done (alter s.number (seal_root (given s).semicolon (given s).gap) (given s).nodes)
 unfolding answer outcome resume
 end_answer s e l = rw e (ap done (sym (alter-append s.number (seal_root (given s).semicolon (given s).gap) s.nodes _ l)))
-
--- What a step says of the statement in progress and the piece.
-
-some-length : (r : List Piece) → (r ≡ [] → ⊥) → 0 < length r
-some-length [] n = absurd (n refl)
-some-length (q ∷ r) n = omega arith
-
-pub end_begun : (s : Machine) (p : Piece) (st : Step) → IsReady s → IsStep st (turn s.run s.awaited p) s.awaited p → st ≡ StepOf.End → 0 < length s.run
-end_begun s p st h i e =
-    let t : turn s.run s.awaited p ≡ ends = subst (λ z. IsStep z (turn s.run s.awaited p) s.awaited p) e i in
-    some-length s.run (subst (λ z. Told z s.run s.awaited (shape p)) t (told s.run s.awaited p h.idle)).2
-
-pub comment_shape : (s : Machine) (p : Piece) (st : Step) → IsReady s → IsStep st (turn s.run s.awaited p) s.awaited p → st ≡ StepOf.Comment → shape p ≡ Shape.comment
-comment_shape s p st h i e =
-    let t : turn s.run s.awaited p ≡ alone = subst (λ z. IsStep z (turn s.run s.awaited p) s.awaited p) e i in
-    (subst (λ z. Told z s.run s.awaited (shape p)) t (told s.run s.awaited p h.idle)).1

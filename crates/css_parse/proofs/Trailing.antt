@@ -1,5 +1,5 @@
 -- The end and the start of a list by a test of its items, an item at a time.
-use Rattle.std.proofs.Common.{◌≡◌, ℕ, suc, ◌+◌, ◌<◌, List, [], ◌∷◌, ◌++◌, Bool, true, false, length, take, drop, get_or, refl, ◌∙◌, sym, ap, take-append-drop, take-suc, add-one, drop-cons}
+use Rattle.std.proofs.Common.{◌≡◌, ℕ, suc, ◌+◌, ◌-◌, ◌<◌, ◌≤◌, subst, arith, List, [], ◌∷◌, ◌++◌, Bool, true, false, length, take, drop, get_or, refl, ◌∙◌, sym, ap, take-append-drop, take-suc, add-one, drop-cons}
 use Rattle.css_tree.proofs.Split.{keep, solid_by, tail_by, lead_by, unlead_by}
 use Rattle.css_tree.proofs.Trim.{trim-all}
 
@@ -30,6 +30,20 @@ module _ {A : Type 0} (test : A → Bool) where
   solid_kept xs i d l b =
       let t : take (i + 1) xs ≡ take i xs ++ get_or xs i d ∷ [] = rw add-one (take-suc xs i d l) in
       t ∙ (sym (snoc_kept (take i xs) (get_or xs i d) b) ∙ ap (solid_by test) (sym t))
+
+  -- one trailing item less
+  pub solid_less : (xs : List A) (i : ℕ) (d : A) → i < length xs → test (get_or xs i d) ≡ true → solid_by test (take (i + 1) xs) ≡ solid_by test (take i xs)
+  solid_less xs i d l b = ap (solid_by test) (rw add-one (take-suc xs i d l)) ∙ snoc_dropped (take i xs) (get_or xs i d) b
+
+  -- at the last of n items
+  last-one : (n : ℕ) → 0 < n → n - 1 + 1 ≡ n
+  last-one n l = omega arith
+
+  pub solid_found : (xs : List A) (n : ℕ) (d : A) → 0 < n → n ≤ length xs → test (get_or xs (n - 1) d) ≡ false → take n xs ≡ solid_by test (take n xs)
+  solid_found xs n d l k b = subst (λ z. take z xs ≡ solid_by test (take z xs)) (last-one n l) (solid_kept xs (n - 1) d (omega (arith, l, k)) b)
+
+  pub solid_before : (xs : List A) (n : ℕ) (d : A) → 0 < n → n ≤ length xs → test (get_or xs (n - 1) d) ≡ true → solid_by test (take n xs) ≡ solid_by test (take (n - 1) xs)
+  solid_before xs n d l k b = subst (λ z. solid_by test (take z xs) ≡ solid_by test (take (n - 1) xs)) (last-one n l) (solid_less xs (n - 1) d (omega (arith, l, k)) b)
 
 tail-inj : {A : Type 0} (p : A) (a b : List A) → ◌≡◌ {A = List A} (p ∷ a) (p ∷ b) → a ≡ b
 tail-inj p a b e = ap (drop 1) e

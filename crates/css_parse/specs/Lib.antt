@@ -3,6 +3,7 @@ pub mod Head
 pub mod Steps
 pub mod Marks
 pub mod Gaps
+pub mod Standing
 pub mod Values
 pub mod Machine
 pub mod Model

@@ -1,5 +1,5 @@
 -- What the search for the important mark answers.
-use Rattle.std.specs.Prelude.{◌≡◌, ℕ, List, [], ◌∷◌, ◌++◌, false, Option, Some, None, length, take, drop, reverse}
+use Rattle.std.specs.Prelude.{◌≡◌, ℕ, ◌+◌, List, [], ◌∷◌, ◌++◌, false, Option, Some, None, length, take, drop, reverse}
 use Rattle.std.specs.Str.{chars}
 use Rattle.css_text.specs.Ahead.{byte_len}
 use Rattle.css_tree.specs.Pieces.{Piece, join}
@@ -27,6 +27,10 @@ pub record IsIn (m : Mark) (pieces : List Piece) : Type 0 where
   pub before : chars m.word.front.now ≡ take n word.text
   pub behind : chars m.word.back.now ≡ drop n word.text
   pub size : length m.word.front.now ≡ byte_len (take n word.text)
+
+-- the byte at which the mark begins
+abbrev pub IsMarkStart : ℕ → Mark → List Piece → Type 0
+IsMarkStart n m pieces = (h : IsIn m pieces) → n ≡ h.word.at + length m.word.front.now
 
 -- the last of the pieces that isn't blank is a word that ends with `!`
 pub record IsBang (m : Mark) (pieces : List Piece) : Type 0 where

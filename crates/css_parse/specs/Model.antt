@@ -3,10 +3,12 @@ use Rattle.std.specs.Prelude.{◌≡◌, ◌+◌, ◌≤◌, ℕ, List, [], ◌�
 use Rattle.css_text.specs.declared.stop.Stop.{Stop}
 use Rattle.css_text.specs.declared.stop.Stop.TheVariants as E
 use Rattle.node_rows.specs.declared.node_list.NodeAt.{NodeAt}
-use Rattle.css_tree.specs.Pieces.{Piece}
+use Rattle.css_text.proofs.Slices.{IsSlice}
+use Rattle.css_tree.specs.Pieces.{Piece, end_of, last_end}
 use Rattle.css_tree.specs.Fault.{Fault}
 use Rattle.css_parse.specs.declared.parser.Parser.{Parser}
 use Rattle.css_parse.specs.Machine.{Machine, answer, faulty, done}
+use Rattle.css_parse.specs.Standing.{sheet, gap_text, IsBehind}
 
 abbrev pub model : Parser → Machine
 model p = record {
@@ -14,10 +16,21 @@ model p = record {
   number = p.number;
   semicolon = p.semicolon;
   frames = reverse p.frames.items;
-  gap = p.gap;
+  gap = gap_text (sheet p.texts) p.gap;
   run = p.run;
   awaited = reverse p.awaited.items;
 }
+
+-- The gap and the statement in progress stand side by side in these bytes, which are the sheet's, and end at the byte `at`.
+pub record IsUpTo (bytes : List ℕ) (p : Parser) (at : ℕ) : Type 0 where
+  pub same : sheet p.texts ≡ bytes
+  pub behind : IsBehind bytes p.gap p.run
+  pub end : last_end p.gap.end p.run ≡ at
+
+-- the piece stands there directly behind them
+pub record IsNext (bytes : List ℕ) (p : Parser) (q : Piece) : Type 0 where
+  pub up_to : IsUpTo bytes p q.at
+  pub slice : IsSlice bytes q.at (end_of q) q.text
 
 -- there are no more nodes and pieces in progress than bytes, besides the root
 abbrev pub IsSmall : Machine → ℕ → Type 0

@@ -1,17 +1,19 @@
 // The texts of nodes, by the pieces that they are made of.
-ghost use Rattle.std.specs.Prelude.{◌≡◌, ◌++◌, ◌<◌, ◌≤◌, ◌==◌, if◌then◌else◌, IfOk, length, None};
+ghost use Rattle.std.specs.Prelude.{◌≡◌, ◌+◌, ◌-◌, ◌++◌, [], ◌∷◌, ◌<◌, ◌≤◌, ◌==◌, if◌then◌else◌, IfOk, length, None, take, drop};
 ghost use Rattle.std.specs.Str.{chars};
 ghost use Rattle.css_tree.specs.Pieces.{join, shape, Shape as S};
 ghost use Rattle.css_tree.proofs.Split.{mark_of};
 ghost use Rattle.css_tree.proofs.TreeOf.{comment_text, at_rule_text, rule_text, declaration_text};
 ghost use Rattle.css_parse.specs.Gaps.{gap_of};
-ghost use Rattle.css_parse.specs.Marks.{IsMarkOf};
+ghost use Rattle.css_parse.specs.Marks.{IsIn, IsMarkOf, IsMarkStart};
+ghost use Rattle.css_parse.specs.Standing.{sheet, gap_text, AreParts, IsBehind};
 ghost use Rattle.css_parse.specs.Values.{IsValue, IsValueLen, IsPast};
 
+use crate::gap::Gap;
 use crate::mark::{Mark, find_mark};
 use crate::piece::Piece;
 use crate::spaces;
-use crate::texts::{Texts, end_of, lead_len, solid_len, source_of, text_of, with_pieces};
+use crate::texts::{Texts, last_end, lead_len, solid_len, source_of, text_of};
 use css_text::txt::Txt;
 use css_tree::node::{Block, NodeText, Source};
 use std::alloc::AllocError;
@@ -25,17 +27,19 @@ struct Value {
 }
 
 /// A comment.
-pub fn comment(texts: Texts, before: &str, piece: &Piece) -> Result<NodeText, AllocError>
-    requires { shape piece.now ≡ S.comment }
-    ensures { IfOk result (λ n. n ≡ comment_text (gap_of (chars before.now)) piece.now) }
+pub fn comment(texts: Texts, before: Gap, piece: &Piece) -> Result<NodeText, AllocError>
+    requires comment { shape piece.now ≡ S.comment }
+    requires behind { IsBehind (sheet texts) before (piece.now ∷ []) }
+    ensures { IfOk result (λ n. n ≡ comment_text (gap_of (gap_text (sheet texts.entry) before)) piece.now) }
 {
-    let parts = spaces::trim(piece.inner());
-    let before = texts.before(piece.start(), before)?;
-    let inner = piece.start() + 2;
-    let left = texts.at(inner, parts.left)?;
-    let text_start = end_of(inner, parts.left);
-    let text = texts.at(text_start, parts.text)?;
-    let right = texts.at(end_of(text_start, parts.text), parts.right)?;
+    let lens = spaces::trim(piece.inner());
+    let start = piece.start() + 2;
+    let text_start = start + lens.left as u32;
+    let text_end = text_start + lens.text as u32;
+    let before = texts.part(before.start, before.end)?;
+    let left = texts.part(start, text_start)?;
+    let text = texts.part(text_start, text_end)?;
+    let right = texts.part(text_end, piece.end() - 2)?;
     Ok(NodeText::Comment {
         before: Some(before),
         left,
@@ -54,18 +58,19 @@ fn unless_empty(front: usize, end: usize, place: usize) -> usize
 /// An at-rule, of an at-word and what stands behind it.
 pub fn at_rule(
     texts: Texts,
-    before: &str,
+    before: Gap,
     word: &Piece,
     rest: &[Piece],
     block: Option<Block>,
 ) -> Result<NodeText, AllocError>
-    requires { shape word.now ≡ S.at_name }
-    ensures { IfOk result (λ n. n ≡ at_rule_text (gap_of (chars before.now)) word.now rest.now block) }
+    requires at_name { shape word.now ≡ S.at_name }
+    requires behind { IsBehind (sheet texts) before (word.now ∷ rest.now) }
+    ensures { IfOk result (λ n. n ≡ at_rule_text (gap_of (gap_text (sheet texts.entry) before)) word.now rest.now block) }
 {
     let front = lead_len(rest);
     let end = front + solid_len(&rest[front..]);
-    let before = texts.before(word.start(), before)?;
-    let name = texts.at(word.start() + 1, word.name())?;
+    let before = texts.part(before.start, before.end)?;
+    let name = texts.part(word.name_start(), word.end())?;
     let source = text_of(texts, &rest[front..end])?;
     let params = source_of(texts.alloc, source)?;
     let name_end = unless_empty(front, end, front);
@@ -82,18 +87,13 @@ pub fn at_rule(
     })
 }
 
-/// A rule, which begins at the byte `start`, of the pieces before its `{`.
-pub fn rule(
-    texts: Texts,
-    before: &str,
-    start: u32,
-    run: &[Piece],
-    block: Block,
-) -> Result<NodeText, AllocError>
-    ensures { IfOk result (λ n. n ≡ rule_text (gap_of (chars before.now)) run.now block) }
+/// A rule, of the pieces before its `{`.
+pub fn rule(texts: Texts, before: Gap, run: &[Piece], block: Block) -> Result<NodeText, AllocError>
+    requires { IsBehind (sheet texts) before run.now }
+    ensures { IfOk result (λ n. n ≡ rule_text (gap_of (gap_text (sheet texts.entry) before)) run.now block) }
 {
     let end = solid_len(run);
-    let before = texts.before(start, before)?;
+    let before = texts.part(before.start, before.end)?;
     let source = text_of(texts, &run[..end])?;
     let selector = source_of(texts.alloc, source)?;
     let between = text_of(texts, &run[end..])?;
@@ -103,31 +103,6 @@ pub fn rule(
         between,
         block,
     })
-}
-
-/// The text before the mark, without its trailing blanks. The word stands at the byte `start`.
-fn value_text(texts: Texts, pieces: &[Piece], start: u32, word: &str) -> Result<Txt, AllocError>
-    ensures { IfOk result (λ t. t ≡ join pieces.now ++ chars word.now) }
-{
-    if pieces.is_empty() {
-        return texts.at(start, word);
-    }
-    let text = text_of(texts, pieces)?;
-    text.followed_by(texts.alloc, word)
-}
-
-/// The blanks before the mark, and the mark.
-fn mark_text(
-    texts: Texts,
-    blanks: &[Piece],
-    start: u32,
-    word: &str,
-    rest: &[Piece],
-) -> Result<Txt, AllocError>
-    ensures { IfOk result (λ t. t ≡ join blanks.now ++ (chars word.now ++ join rest.now)) }
-{
-    let text = value_text(texts, blanks, start, word)?;
-    with_pieces(texts.alloc, text, rest)
 }
 
 /// How many pieces before the mark's word are no trailing blanks of the value.
@@ -143,6 +118,7 @@ fn value_len(body: &[Piece], mark: &Mark) -> usize
 }
 
 fn read_value(texts: Texts, body: &[Piece]) -> Result<Value, AllocError>
+    requires { AreParts (sheet texts) body.now }
     ensures { IfOk result (λ v. IsValue v body.now) }
 {
     match find_mark(body) {
@@ -152,7 +128,8 @@ fn read_value(texts: Texts, body: &[Piece]) -> Result<Value, AllocError>
 }
 
 fn unmarked_value(texts: Texts, body: &[Piece]) -> Result<Value, AllocError>
-    requires { mark_of body.now ≡ None }
+    requires parts { AreParts (sheet texts) body.now }
+    requires unmarked { mark_of body.now ≡ None }
     ensures { IfOk result (λ v. IsValue v body.now) }
 {
     let text = text_of(texts, body)?;
@@ -165,34 +142,58 @@ fn unmarked_value(texts: Texts, body: &[Piece]) -> Result<Value, AllocError>
     })
 }
 
+/// The byte at which the mark begins.
+fn mark_start(body: &[Piece], mark: &Mark) -> u32
+    requires mark { IsIn mark.now body.now }
+    requires short { (h : IsIn mark.now body.now) → h.word.at + length mark.now.word.front.now ≤ 67108864 }
+    ensures { IsMarkStart result mark.now body.now }
+{
+    body[mark.before].start() + mark.word.front.len() as u32
+}
+
+/// The text before the mark, without its trailing blanks, of so many pieces and what stands in the mark's word before the mark.
+fn value_text(texts: Texts, body: &[Piece], mark: &Mark, end: usize) -> Result<Txt, AllocError>
+    requires parts { AreParts (sheet texts) body.now }
+    requires mark { IsIn mark.now body.now }
+    requires end { IsValueLen end mark.now body.now }
+    ensures { IfOk result (λ t. t ≡ join (take end body.now) ++ chars mark.now.word.front.now) }
+{
+    if mark.word.front.is_empty() {
+        text_of(texts, &body[..end])
+    } else {
+        texts.part(body[0].start(), mark_start(body, mark))
+    }
+}
+
+/// The blanks behind so many pieces of the value, and the mark.
+fn mark_text(texts: Texts, body: &[Piece], mark: &Mark, end: usize) -> Result<Txt, AllocError>
+    requires parts { AreParts (sheet texts) body.now }
+    requires mark { IsIn mark.now body.now }
+    requires end { IsValueLen end mark.now body.now }
+    ensures { IfOk result (λ t. t ≡ join (take (mark.now.before - end) (drop end body.now)) ++ (chars mark.now.word.back.now ++ join (drop (mark.now.before + 1) body.now))) }
+{
+    if mark.word.front.is_empty() {
+        text_of(texts, &body[end..])
+    } else {
+        let start = mark_start(body, mark);
+        texts.part(start, last_end(start, body))
+    }
+}
+
 fn marked_value(texts: Texts, body: &[Piece], mark: &Mark) -> Result<Value, AllocError>
-    requires { IsMarkOf mark.now body.now }
+    requires parts { AreParts (sheet texts) body.now }
+    requires mark { IsMarkOf mark.now body.now }
     ensures { IfOk result (λ v. IsValue v body.now) }
 {
     let end = value_len(body, mark);
-    let start = body[mark.before].start();
-    let text = value_text(texts, &body[..end], start, mark.word.front)?;
+    let text = value_text(texts, body, mark, end)?;
     let source = source_of(texts.alloc, text)?;
-    let important_raw = mark_text(
-        texts,
-        &body[end..mark.before],
-        end_of(start, mark.word.front),
-        mark.word.back,
-        &body[mark.before + 1..],
-    )?;
+    let important_raw = mark_text(texts, body, mark, end)?;
     Ok(Value {
         source,
         important: true,
         important_raw,
     })
-}
-
-/// The gap before a declaration, and its hack, which stands at the byte `start`.
-fn before_text(texts: Texts, start: u32, before: &str, hack: &str) -> Result<Txt, AllocError>
-    ensures { IfOk result (λ t. t ≡ chars before.now ++ chars hack.now) }
-{
-    let text = texts.before(start, before)?;
-    text.followed_by(texts.alloc, hack)
 }
 
 /// Behind the colon, which stands at that place.
@@ -206,18 +207,20 @@ fn past_colon(rest: &[Piece], front: usize) -> usize
 /// A declaration, of a word and what stands behind it.
 pub fn declaration(
     texts: Texts,
-    before: &str,
+    before: Gap,
     word: &Piece,
     rest: &[Piece],
 ) -> Result<NodeText, AllocError>
-    ensures { IfOk result (λ n. n ≡ declaration_text (gap_of (chars before.now)) word.now rest.now) }
+    requires { IsBehind (sheet texts) before (word.now ∷ rest.now) }
+    ensures { IfOk result (λ n. n ≡ declaration_text (gap_of (gap_text (sheet texts.entry) before)) word.now rest.now) }
 {
     let front = lead_len(rest);
     let colon = past_colon(rest, front);
     let start = colon + lead_len(&rest[colon..]);
     let end = start + solid_len(&rest[start..]);
-    let before = before_text(texts, word.start(), before, word.hack())?;
-    let prop = texts.at(word.start() + word.hack_len() as u32, word.prop())?;
+    let prop_start = word.hack_end();
+    let before = texts.part(before.start, prop_start)?;
+    let prop = texts.part(prop_start, word.end())?;
     let between = text_of(texts, &rest[..start])?;
     let value = read_value(texts, &rest[start..end])?;
     let tail = text_of(texts, &rest[end..])?;

@@ -1,51 +1,21 @@
 // The text since the last node.
-ghost use Rattle.std.specs.Prelude.{◌≡◌, ◌++◌, [], IfOk};
-ghost use Rattle.std.specs.Str.{chars};
+ghost use Rattle.std.specs.Prelude.{◌≡◌};
 
-use std::alloc::{AllocError, Global};
-use std::marker::Model;
-
-/// The text since the last node: white space and `;`.
-#[derive(Drop)]
+/// The text since the last node, white space and `;`: the part of the sheet from one byte up to another.
+#[derive(Clone, Copy)]
 pub struct Gap {
-    text: String,
-}
-
-impl Model for Gap {
-    ghost use Rattle.std.specs.Prelude.{ℕ, List};
-    ghost use Rattle.std.specs.String.{string_bytes};
-    ghost use Rattle.std.specs.Str.{chars};
-
-    ghost Value = { List ℕ };
-
-    ghost view = { λ g. chars (string_bytes g.text) };
+    pub start: u32,
+    pub end: u32,
 }
 
 impl Gap {
-    pub fn new(alloc: Global) -> Gap
-        ensures { result ≡ [] }
+    /// The empty one at that byte.
+    pub fn at(byte: u32) -> Gap
+        ensures { result ≡ record { start = byte; end = byte } }
     {
         Gap {
-            text: String::new(alloc),
+            start: byte,
+            end: byte,
         }
-    }
-
-    pub fn push(&mut self, text: &str) -> Result<(), AllocError>
-        ensures { IfOk result (λ _. self.new ≡ self.old ++ chars text.now) }
-    {
-        self.text.push_str(text)?;
-        Ok(())
-    }
-
-    pub fn clear(&mut self)
-        ensures { self.new ≡ [] }
-    {
-        self.text.clear();
-    }
-
-    pub fn as_str(&self) -> &str
-        ensures { chars result.now ≡ self.now }
-    {
-        self.text.as_str()
     }
 }

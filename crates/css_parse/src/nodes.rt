@@ -1,15 +1,16 @@
 // The nodes of the parser's list, and their ends.
-ghost use Rattle.std.specs.Prelude.{◌≡◌, ◌<◌, IfOk, length};
-ghost use Rattle.std.specs.Str.{chars};
-ghost use Rattle.css_tree.specs.Pieces.{shape, last_end, Shape as S};
+ghost use Rattle.std.specs.Prelude.{◌≡◌, ◌<◌, [], ◌∷◌, IfOk, length};
+ghost use Rattle.css_tree.specs.Pieces.{shape, Shape as S};
 ghost use Rattle.css_tree.specs.Fields.{first_at};
 ghost use Rattle.css_tree.proofs.TreeOf.{block_text as block_text_of};
 ghost use Rattle.css_parse.specs.Gaps.{gap_of};
 ghost use Rattle.css_parse.specs.Machine.{comment_node, leaf_node, open_node, open_end};
+ghost use Rattle.css_parse.specs.Standing.{sheet, gap_text, IsBehind};
 
 use crate::fields;
+use crate::gap::Gap;
 use crate::piece::{Piece, Shape};
-use crate::texts::Texts;
+use crate::texts::{Texts, last_end};
 use css_text::lexer::Span;
 use css_tree::node::{Block, NodeText};
 use node_rows::node_list::NodeAt;
@@ -23,17 +24,6 @@ pub fn open_end() -> Block
         semicolon: false,
         after: None,
     }
-}
-
-/// The byte behind pieces, of which the one before them ends at `end`.
-fn last_end(end: u32, rest: &[Piece]) -> u32
-    ensures { result ≡ last_end end rest.now }
-{
-    let mut last = end;
-    for piece in rest {
-        last = piece.end();
-    }
-    last
 }
 
 /// Where the pieces begin, or else that one.
@@ -58,11 +48,12 @@ fn span(start: u32, end: u32) -> Span
 pub fn comment_node(
     texts: Texts,
     parent: u32,
-    gap: &str,
+    gap: Gap,
     piece: &Piece,
 ) -> Result<NodeAt, AllocError>
-    requires { shape piece.now ≡ S.comment }
-    ensures { IfOk result (λ n. n ≡ comment_node parent (chars gap.now) piece.now) }
+    requires comment { shape piece.now ≡ S.comment }
+    requires behind { IsBehind (sheet texts) gap (piece.now ∷ []) }
+    ensures { IfOk result (λ n. n ≡ comment_node parent (gap_text (sheet texts.entry) gap) piece.now) }
 {
     let text = fields::comment(texts, gap, piece)?;
     let span = span(piece.start(), piece.end());
@@ -70,9 +61,10 @@ pub fn comment_node(
 }
 
 /// A declaration, or an at-rule without a block.
-pub fn leaf_node(texts: Texts, parent: u32, gap: &str, run: &[Piece]) -> Result<NodeAt, AllocError>
-    requires { 0 < length run.now }
-    ensures { IfOk result (λ n. n ≡ leaf_node parent (chars gap.now) run.now) }
+pub fn leaf_node(texts: Texts, parent: u32, gap: Gap, run: &[Piece]) -> Result<NodeAt, AllocError>
+    requires some { 0 < length run.now }
+    requires behind { IsBehind (sheet texts) gap run.now }
+    ensures { IfOk result (λ n. n ≡ leaf_node parent (gap_text (sheet texts.entry) gap) run.now) }
 {
     let word = &run[0];
     let rest = &run[1..];
@@ -85,7 +77,7 @@ pub fn leaf_node(texts: Texts, parent: u32, gap: &str, run: &[Piece]) -> Result<
         }
         _ => {
             let text = fields::declaration(texts, gap, word, rest)?;
-            let span = span(word.start() + word.hack_len() as u32, end);
+            let span = span(word.hack_end(), end);
             Ok(NodeAt { parent, text, span })
         }
     }
@@ -95,26 +87,27 @@ pub fn leaf_node(texts: Texts, parent: u32, gap: &str, run: &[Piece]) -> Result<
 pub fn open_node(
     texts: Texts,
     parent: u32,
-    gap: &str,
+    gap: Gap,
     run: &[Piece],
     opening: &Piece,
 ) -> Result<NodeAt, AllocError>
-    ensures { IfOk result (λ n. n ≡ open_node parent (chars gap.now) run.now opening.now) }
+    requires { IsBehind (sheet texts) gap run.now }
+    ensures { IfOk result (λ n. n ≡ open_node parent (gap_text (sheet texts.entry) gap) run.now opening.now) }
 {
-    let start = first_start(run, opening);
-    let text = block_text(texts, gap, start, run)?;
-    let span = span(start, opening.end());
+    let text = block_text(texts, gap, run)?;
+    let span = span(first_start(run, opening), opening.end());
     Ok(NodeAt { parent, text, span })
 }
 
-fn block_text(texts: Texts, gap: &str, start: u32, run: &[Piece]) -> Result<NodeText, AllocError>
-    ensures { IfOk result (λ t. t ≡ block_text_of (gap_of (chars gap.now)) run.now open_end) }
+fn block_text(texts: Texts, gap: Gap, run: &[Piece]) -> Result<NodeText, AllocError>
+    requires { IsBehind (sheet texts) gap run.now }
+    ensures { IfOk result (λ t. t ≡ block_text_of (gap_of (gap_text (sheet texts.entry) gap)) run.now open_end) }
 {
     match run {
-        [] => fields::rule(texts, gap, start, run, open_end()),
+        [] => fields::rule(texts, gap, run, open_end()),
         [word, rest @ ..] => match word.shape() {
             Shape::AtName => fields::at_rule(texts, gap, word, rest, Some(open_end())),
-            _ => fields::rule(texts, gap, start, run, open_end()),
+            _ => fields::rule(texts, gap, run, open_end()),
         },
     }
 }

@@ -1,5 +1,5 @@
 // A piece as the parser keeps it: its shape, its first byte, and its text.
-ghost use Rattle.std.specs.Prelude.{◌≡◌, ◌+◌, ◌≤◌, ◌<◌, length, drop, [], ◌∷◌};
+ghost use Rattle.std.specs.Prelude.{◌≡◌, ◌+◌, ◌++◌, ◌≤◌, ◌<◌, length, drop, [], ◌∷◌};
 ghost use Rattle.std.specs.Str.{chars};
 ghost use Rattle.css_text.specs.PieceKinds.{IsOfKind};
 ghost use Rattle.css_tree.specs.Pieces.{shape, shape_of, single_shape, end_of, Shape as S};
@@ -161,41 +161,36 @@ impl<'t> Piece<'t> {
         self.start + self.text.len() as u32
     }
 
-    /// The name of an at-word.
-    pub fn name(&self) -> &'t str
+    /// The byte behind the `@` of an at-word.
+    pub fn name_start(&self) -> u32
         requires { shape self.now ≡ S.at_name }
-        ensures { chars result.now ≡ drop 1 self.now.text }
+        ensures value { result ≡ self.now.at + 1 }
+        ensures sign { self.now.text ≡ 64 ∷ drop 1 self.now.text }
     {
-        &self.text[1..]
+        self.start + 1
     }
 
     /// What stands between the ends of a comment.
     pub fn inner(&self) -> &'t str
         requires { shape self.now ≡ S.comment }
-        ensures { chars result.now ≡ inner_of self.now.text }
+        ensures value { chars result.now ≡ inner_of self.now.text }
+        ensures marks { self.now.text ≡ 47 ∷ 42 ∷ (inner_of self.now.text ++ 42 ∷ 47 ∷ []) }
     {
         &self.text[2..self.text.len() - 2]
     }
 
     /// How many bytes of the text are a hack.
-    pub fn hack_len(&self) -> usize
+    fn hack_len(&self) -> usize
         ensures { result ≡ length (hack self.now.text) }
     {
         hack_len(self.text.as_bytes())
     }
 
-    /// The hack of the text.
-    pub fn hack(&self) -> &'t str
-        ensures { chars result.now ≡ hack self.now.text }
+    /// The byte behind the hack.
+    pub fn hack_end(&self) -> u32
+        ensures { result ≡ self.now.at + length (hack self.now.text) }
     {
-        &self.text[..self.hack_len()]
-    }
-
-    /// The text behind its hack.
-    pub fn prop(&self) -> &'t str
-        ensures { chars result.now ≡ drop (length (hack self.now.text)) self.now.text }
-    {
-        &self.text[self.hack_len()..]
+        self.start + self.hack_len() as u32
     }
 
     /// It is a word.

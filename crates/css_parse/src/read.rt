@@ -8,6 +8,7 @@ ghost use Rattle.css_text.specs.Ahead.{begins_bom};
 ghost use Rattle.css_parse.specs.Answer.{IsNodes};
 ghost use Rattle.css_parse.specs.Reading.{IsRead};
 ghost use Rattle.css_parse.specs.Lexical.{found_of};
+ghost use Rattle.css_parse.specs.Standing.{sheet};
 
 use crate::found::Found;
 use crate::parser::Parser;
@@ -49,6 +50,7 @@ fn lexical(fault: LexFault) -> Found
 fn read_pieces(texts: Texts, src: &str, bom: bool) -> Result<NodeList, Stop<Found>>
     requires short { length src.now ≤ 67108864 }
     requires bom { bom ≡ begins_bom (chars src.now) }
+    requires sheet { sheet texts ≡ src.now }
     ensures { IsRead result (chars src.now) }
 {
     let mut parser = match Parser::new(texts, bom, src.len()) {

@@ -1,17 +1,17 @@
 // White space at the ends of a text.
 ghost use Rattle.std.specs.Prelude.{◌≡◌, ◌≤◌, length, take, drop};
 ghost use Rattle.std.specs.Str.{chars};
+ghost use Rattle.css_text.specs.Ahead.{byte_len};
 ghost use Rattle.css_text.specs.Characters.{is_space as is_space_of};
 ghost use Rattle.css_tree.proofs.Split.{solid_by, tail_by, lead_by, unlead_by};
 
 use css_text::scan;
 
-/// A text in three parts: white space, what neither begins nor ends with any, and white space.
+/// A text in three parts, by the bytes of the first two: white space, what neither begins nor ends with any, and white space.
 #[derive(Clone, Copy)]
-pub struct Trimmed<'t> {
-    pub left: &'t str,
-    pub text: &'t str,
-    pub right: &'t str,
+pub struct Trimmed {
+    pub left: usize,
+    pub text: usize,
 }
 
 /// How many bytes stand before the trailing white space.
@@ -30,17 +30,14 @@ fn trimmed_len(bytes: &[u8]) -> usize
 }
 
 /// The text in three parts. One of white space alone is all `left`.
-pub fn trim(text: &str) -> Trimmed<'_>
-    ensures left { chars result.left.now ≡ lead_by is_space_of (chars text.now) }
-    ensures text { chars result.text.now ≡ solid_by is_space_of (unlead_by is_space_of (chars text.now)) }
-    ensures right { chars result.right.now ≡ tail_by is_space_of (unlead_by is_space_of (chars text.now)) }
+pub fn trim(text: &str) -> Trimmed
+    ensures left { result.left ≡ byte_len (lead_by is_space_of (chars text.now)) }
+    ensures text { result.text ≡ byte_len (solid_by is_space_of (unlead_by is_space_of (chars text.now))) }
 {
-    let lead = scan::spaces_end(text.as_bytes(), 0);
-    let rest = &text[lead..];
-    let len = trimmed_len(rest.as_bytes());
+    let left = scan::spaces_end(text.as_bytes(), 0);
+    let rest = &text[left..];
     Trimmed {
-        left: &text[..lead],
-        text: &rest[..len],
-        right: &rest[len..],
+        left,
+        text: trimmed_len(rest.as_bytes()),
     }
 }

@@ -1,9 +1,11 @@
 // The texts of runs of pieces.
-ghost use Rattle.std.specs.Prelude.{◌≡◌, ◌++◌, ◌≤◌, [], length, take, drop, IfOk};
+ghost use Rattle.std.specs.Prelude.{◌≡◌, ◌≤◌, [], length, take, drop, IfOk};
 ghost use Rattle.std.specs.Str.{chars};
-ghost use Rattle.css_tree.specs.Pieces.{join, is_blank};
+ghost use Rattle.css_text.specs.Shared.{part, IsPart};
+ghost use Rattle.css_tree.specs.Pieces.{join, is_blank, last_end};
 ghost use Rattle.css_tree.specs.Clean.{clean_of};
 ghost use Rattle.css_tree.proofs.Split.{solid, tail, lead, unlead};
+ghost use Rattle.css_parse.specs.Standing.{sheet, AreParts};
 
 use crate::piece::{Piece, Shape};
 use css_text::txt::Txt;
@@ -11,66 +13,50 @@ use css_tree::clean::clean_text;
 use css_tree::node::Source;
 use std::alloc::{AllocError, Global};
 
-/// Where the texts of nodes come from: parts of the sheet, and memory for the few that don't stand there in one piece.
+/// Where the texts of nodes come from: parts of the sheet, and memory for the clean texts that differ from their sources.
 #[derive(Clone, Copy)]
 pub struct Texts<'t> {
     pub alloc: Global,
     pub sheet: &'t Txt,
 }
 
-/// The byte behind a text that begins there.
-pub fn end_of(start: u32, text: &str) -> u32 {
-    match u32::try_from(text.len()) {
-        Ok(len) => start.saturating_add(len),
-        Err(_) => start,
-    }
-}
-
 impl<'t> Texts<'t> {
+    /// The part of the sheet from one byte up to another.
+    pub fn part(&self, start: u32, end: u32) -> Result<Txt, AllocError>
+        requires { IsPart (sheet self.now) start end }
+        ensures { IfOk result (λ t. t ≡ chars (part (sheet self.now) start end)) }
+    {
+        self.sheet.part(start, end)
+    }
+
     /// The empty text.
     pub fn empty(&self) -> Result<Txt, AllocError>
         ensures { IfOk result (λ t. t ≡ []) }
     {
-        self.at(0, "")
-    }
-
-    /// A text that stands in the sheet at that byte.
-    pub fn at(&self, start: u32, text: &str) -> Result<Txt, AllocError>
-        ensures { IfOk result (λ t. t ≡ chars text.now) }
-    {
-        self.sheet.shared(self.alloc, start, text)
-    }
-
-    /// A text that ends in the sheet before that byte.
-    pub fn before(&self, end: u32, text: &str) -> Result<Txt, AllocError>
-        ensures { IfOk result (λ t. t ≡ chars text.now) }
-    {
-        match u32::try_from(text.len()) {
-            Ok(len) => self.at(end.saturating_sub(len), text),
-            Err(_) => Txt::new(self.alloc, text),
-        }
+        self.part(0, 0)
     }
 }
 
-/// The text, with those of the pieces behind it.
-pub fn with_pieces(alloc: Global, mut text: Txt, pieces: &[Piece]) -> Result<Txt, AllocError>
-    ensures { IfOk result (λ t. t ≡ text ++ join pieces.now) }
+/// The byte behind pieces, or else that one.
+pub fn last_end(byte: u32, pieces: &[Piece]) -> u32
+    ensures { result ≡ last_end byte pieces.now }
 {
-    for piece in pieces {
-        text = text.followed_by(alloc, piece.text())?;
+    match pieces {
+        [] => byte,
+        [.., last] => last.end(),
     }
-    Ok(text)
 }
 
 /// The text of the pieces.
 pub fn text_of(texts: Texts, pieces: &[Piece]) -> Result<Txt, AllocError>
+    requires { AreParts (sheet texts) pieces.now }
     ensures { IfOk result (λ t. t ≡ join pieces.now) }
 {
     match pieces {
         [] => texts.empty(),
-        [first, rest @ ..] => {
-            let text = texts.at(first.start(), first.text())?;
-            with_pieces(texts.alloc, text, rest)
+        [first, ..] => {
+            let start = first.start();
+            texts.part(start, last_end(start, pieces))
         }
     }
 }
@@ -111,11 +97,12 @@ pub fn solid_len(pieces: &[Piece]) -> usize
     ensures back { drop result pieces.now ≡ tail pieces.now }
     ensures within { result ≤ length pieces.now }
 {
-    let mut solid = 0;
-    for (i, piece) in pieces.iter().enumerate() {
-        if !is_blank(piece) {
-            solid = i + 1;
+    let mut len = pieces.len();
+    while len > 0 {
+        if !is_blank(&pieces[len - 1]) {
+            return len;
         }
+        len -= 1;
     }
-    solid
+    0
 }

@@ -1,5 +1,5 @@
 -- A text has at most one list of parts.
-use Rattle.std.proofs.Common.{◌≡◌, ℕ, zero, suc, ◌+◌, ◌<◌, Bool, true, false, eqb, List, [], ◌∷◌, ◌++◌, length, refl, ap, sym, ◌∙◌, subst, arith, append_assoc}
+use Rattle.std.proofs.Common.{◌≡◌, ℕ, suc, ◌+◌, ◌<◌, Bool, true, false, List, [], ◌∷◌, ◌++◌, length, refl, ap, sym, ◌∙◌, subst, arith, append_assoc}
 use Rattle.css_text.specs.declared.lexer.PieceKind.{PieceKind}
 use Rattle.css_text.specs.declared.lexer.PieceKind.TheVariants.{Word, Single}
 use Rattle.css_text.specs.Characters.{is_space, is_quote, is_single}

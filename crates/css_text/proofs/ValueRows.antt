@@ -1,7 +1,7 @@
 -- Parts before others.
-use Rattle.std.proofs.Common.{◌≡◌, ℕ, suc, ◌+◌, Bool, true, false, List, [], ◌∷◌, ◌++◌, length, refl, ap, sym, ◌∙◌, subst, arith, append_assoc, length-append}
+use Rattle.std.proofs.Common.{◌≡◌, ℕ, suc, ◌+◌, Bool, true, false, List, [], ◌∷◌, ◌++◌, length, refl, ap, sym, ◌∙◌, subst, arith, append_assoc}
 use Rattle.css_text.specs.Ahead.{byte_len}
-use Rattle.css_text.specs.ValueParts.{ValueForm, plain, function, ValueParts, none, value, ending, written, StandsBefore, StaysPlain, IsName, EndsThere, AreParts, followed, StandAt}
+use Rattle.css_text.specs.ValueParts.{plain, function, ValueParts, none, value, ending, written, StandsBefore, StaysPlain, IsName, EndsThere, AreParts, followed, StandAt}
 use Rattle.css_text.proofs.Slices.{byte_len-append}
 use Rattle.css_text.proofs.ValueParts.{function_text}
 

@@ -1,5 +1,5 @@
 -- The parts of a value, as a grammar on its list of characters: parts side by side, and Functions with the parts inside them.
-use Rattle.std.specs.Prelude.{◌≡◌, ◌≢◌, ◌<◌, ℕ, suc, ◌+◌, Bool, true, false, ◌==◌, ◌&&◌, ◌||◌, if◌then◌else◌, List, [], ◌∷◌, ◌++◌, length, Option, Some, None, drop}
+use Rattle.std.specs.Prelude.{◌≡◌, ◌<◌, ℕ, suc, ◌+◌, Bool, true, false, ◌==◌, ◌&&◌, ◌||◌, if◌then◌else◌, List, [], ◌∷◌, ◌++◌, length, Option, Some, None, drop}
 use Rattle.css_text.specs.declared.lexer.PieceKind.{PieceKind}
 use Rattle.css_text.specs.declared.lexer.PieceKind.TheVariants.{Space, Comment, Quoted, Url, Word, Single}
 use Rattle.css_text.specs.Characters.{is_space, is_quote, is_single}

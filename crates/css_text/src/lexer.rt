@@ -147,6 +147,7 @@ impl<'t> Lexer<'t> {
     ///
     /// A `LexFault` exactly where the first form that fits has no end.
     #[tactic(auto, using(crate::proofs::Ahead::ahead_steps))]
+    #[inline(always)]
     pub fn next(&mut self) -> Result<Option<Piece>, LexFault>
         ensures answer { result ≡ next_of self.old.pieces self.old.fault }
         ensures rest { self.new ≡ record self.old { pieces = rest_of self.old.pieces } }

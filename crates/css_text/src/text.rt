@@ -104,7 +104,7 @@ impl Text {
 
     /// The place of the character at the byte, or of the text's end. The line is 1 plus the line feeds (LF) before the byte,
     /// the column 1 plus the UTF-16 units since the last of them. It needs a character boundary, takes no memory, and reads
-    /// at most 8192 bytes of the text, however long the line is.
+    /// at most 512 bytes of the text, however long the line is.
     pub fn place(&self, byte: u32) -> Place
         requires { IsCharBoundary (encode_utf8_all self.now) byte }
         ensures { result ≡ place_of self.now byte }

@@ -1,5 +1,5 @@
 // The project's own text type.
-ghost use Rattle.std.specs.Prelude.{◌≡◌, ◌+◌, ◌++◌, true, length, IfOk, IfSome, encode_utf8_all};
+ghost use Rattle.std.specs.Prelude.{◌≡◌, IfOk, encode_utf8_all};
 ghost use Rattle.std.specs.Str.{chars};
 ghost use Rattle.std.specs.String.{string_bytes};
 ghost use Rattle.css_text.specs.Shared.{part, IsPart};
@@ -42,37 +42,6 @@ impl Drop for Txt {
     }
 }
 
-/// The byte behind `s` where it stands at that byte.
-fn end_of(at: u32, s: &str) -> Option<u32>
-    ensures { IfSome result (λ end. end ≡ at + length s.now) }
-{
-    match u32::try_from(s.len()) {
-        Ok(len) => at.checked_add(len),
-        Err(_) => None,
-    }
-}
-
-/// Whether `s` stands in the text from one byte up to the other.
-fn has_at(text: &str, start: u32, end: u32, s: &str) -> bool
-    ensures there { result ≡ true → IsPart text.now start end }
-    ensures same { result ≡ true → part text.now start end ≡ s.now }
-{
-    let (start, end) = (start as usize, end as usize);
-    start <= end
-        && text.is_char_boundary(start)
-        && text.is_char_boundary(end)
-        && &text[start..end] == s
-}
-
-/// A text of both, one behind the other.
-fn copy_of_both(alloc: Global, first: &str, second: &str) -> Result<Txt, AllocError>
-    ensures { IfOk result (λ t. t ≡ chars first.now ++ chars second.now) }
-{
-    let mut text = String::from_str(alloc, first)?;
-    text.push_str(second)?;
-    Txt::from_string(alloc, text)
-}
-
 impl Txt {
     /// A copy of the text. Its only error is want of memory.
     pub fn new(alloc: Global, s: &str) -> Result<Txt, AllocError>
@@ -109,33 +78,19 @@ impl Txt {
         })
     }
 
-    /// The text `s`: a part of this text's string where that has it at the byte `at`, else a copy. Its only error is want of
-    /// memory.
-    pub fn shared(&self, alloc: Global, at: u32, s: &str) -> Result<Txt, AllocError>
-        ensures { IfOk result (λ t. t ≡ chars s.now) }
+    /// The part of this text from one byte up to another, both counted from its start; it shares the string. Its only error is
+    /// want of memory.
+    #[inline(always)]
+    pub fn part(&self, start: u32, end: u32) -> Result<Txt, AllocError>
+        requires { IsPart (encode_utf8_all self.now) start end }
+        ensures { IfOk result (λ t. t ≡ chars (part (encode_utf8_all self.now) start end)) }
     {
-        match end_of(at, s) {
-            Some(end) if has_at(self.whole.as_str(), at, end, s) => Ok(Txt {
-                whole: self.whole.clone()?,
-                start: at,
-                end,
-            }),
-            _ => Txt::new(alloc, s),
-        }
-    }
-
-    /// This text with `s` behind it: a part of the same string where `s` stands behind it there, else a copy of both. Its only
-    /// error is want of memory.
-    pub fn followed_by(mut self, alloc: Global, s: &str) -> Result<Txt, AllocError>
-        ensures { IfOk result (λ t. t ≡ self ++ chars s.now) }
-    {
-        match end_of(self.end, s) {
-            Some(end) if has_at(self.whole.as_str(), self.end, end, s) => {
-                self.end = end;
-                Ok(self)
-            }
-            _ => copy_of_both(alloc, self.as_str(), s),
-        }
+        prove!(self.start <= self.end);
+        Ok(Txt {
+            whole: self.whole.clone()?,
+            start: self.start + start,
+            end: self.start + end,
+        })
     }
 
     /// The text.
@@ -160,22 +115,14 @@ mod tests {
         Ok(())
     }
 
-    // A part that is there, one that stands elsewhere, and places inside a character and behind the end.
     #[test]
-    fn shares(rt: HostRuntime) -> Result<(), Fail> {
+    fn parts(rt: HostRuntime) -> Result<(), Fail> {
         let whole = Txt::new(rt.alloc(), "a{b:\u{20ac}}")?;
-        for (at, s) in [(2, "b:\u{20ac}"), (0, "b"), (5, "}"), (8, ""), (99, "a")] {
-            assert_eq!(rt; whole.shared(rt.alloc(), at, s)?.as_str(), s);
-        }
-        Ok(())
-    }
-
-    #[test]
-    fn follows(rt: HostRuntime) -> Result<(), Fail> {
-        let whole = Txt::new(rt.alloc(), "ab\u{20ac}c")?;
-        for (s, both) in [("b\u{20ac}", "ab\u{20ac}"), ("c", "ac"), ("", "a")] {
-            let part = whole.shared(rt.alloc(), 0, "a")?;
-            assert_eq!(rt; part.followed_by(rt.alloc(), s)?.as_str(), both);
+        for (start, end, s) in [(0, 1, "a"), (2, 7, "b:\u{20ac}"), (8, 8, "")] {
+            assert!(rt; start <= end);
+            assert!(rt; whole.as_str().is_char_boundary(start as usize));
+            assert!(rt; whole.as_str().is_char_boundary(end as usize));
+            assert_eq!(rt; whole.part(start, end)?.as_str(), s);
         }
         Ok(())
     }

@@ -60,6 +60,7 @@ impl NodeList {
     }
 
     /// One more node, which stands below an earlier one. An error is want of memory, and leaves the list as it was.
+    #[inline(always)]
     pub fn push(&mut self, node: NodeAt) -> Result<(), AllocError>
         requires room { length self.old < 67108865 }
         requires earlier { node.parent < length self.old }

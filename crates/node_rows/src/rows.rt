@@ -148,6 +148,7 @@ impl Rows {
     }
 
     /// One more node, loose and dirty, and its number. An error is want of memory, and leaves the rows as they were.
+    #[inline(always)]
     pub fn add(&mut self, text: NodeText, span: Option<Span>) -> Result<u32, AllocError>
         requires { length self.old < 67108865 }
         ensures { MatchResult result (λ n. (n ≡ length self.old) × (self.new ≡ self.old ++ new_node text span ∷ [])) (λ _. self.new ≡ self.old) }
@@ -169,6 +170,7 @@ impl Rows {
 
     // One more node as the last child of its parent; the first node is the root.
     // An error is want of memory, and leaves the rows as they were.
+    #[inline(always)]
     pub(crate) fn append(&mut self, node: NodeAt) -> Result<(), AllocError>
         requires { IsAppendable self.old node }
         ensures { MatchResult result (λ _. self.new ≡ appended self.old node) (λ _. self.new ≡ self.old) }

@@ -16,6 +16,7 @@ impl Work {
     /// Logs one item of the walk. An entry also makes its node clean.
     ///
     /// Fails for want of memory alone, and changes nothing then.
+    #[inline(always)]
     pub fn note(&mut self, item: Item) -> Result<(), AllocError>
         requires { is_note self.old.nodes item ≡ true }
         ensures { MatchResult result (λ _. unreserved self.new ≡ noted (unreserved self.old) item) (λ _. unreserved self.new ≡ unreserved self.old) }

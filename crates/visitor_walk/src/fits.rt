@@ -1,30 +1,36 @@
 // Which hooks are called at a node.
-ghost use Rattle.std.specs.Prelude.{◌≡◌, MatchOption, None, drop};
-ghost use Rattle.std.specs.Str.{chars};
+ghost use Rattle.std.specs.Prelude.{◌≡◌, ◌<◌, MatchOption, None, drop, length};
 ghost use Rattle.node_store.specs.Cursors.{through};
 ghost use Rattle.visitor_machine.specs.Hooks.{fits};
+ghost use Rattle.visitor_machine.specs.Machine.{key_at};
 ghost use Rattle.visitor_walk.specs.Groups.{shown_hook, shown_hooks, IsFitting};
 
 use crate::hooks::{RunHook, is_filtered};
-use crate::reads::is_same;
+use crate::reads::{is_same, key};
+use node_store::id::NodeId;
+use node_store::work::Work;
 
-fn fits(hook: &RunHook, key: &str) -> bool
-    ensures { result ≡ fits (chars key.now) (shown_hook hook.now) }
+fn fits(work: &Work, hook: &RunHook, node: NodeId) -> bool
+    requires { node < length work.now.nodes }
+    ensures { result ≡ fits (key_at work.now.nodes node) (shown_hook hook.now) }
 {
     match &hook.filter {
-        Some(filter) if is_filtered(hook.event, &hook.filter) => is_same(filter.as_str(), key),
+        Some(filter) if is_filtered(hook.event, &hook.filter) => {
+            is_same(filter.as_str(), key(work, node))
+        }
         _ => true,
     }
 }
 
-/// The place of the first hook, at or after a place, that fits the key.
-pub fn next_fitting(hooks: &[RunHook], from: usize, key: &str) -> Option<usize>
+/// The place of the first hook, at or after a place, that fits the node's name or property.
+pub fn next_fitting(work: &Work, hooks: &[RunHook], node: NodeId, from: usize) -> Option<usize>
+    requires { node < length work.now.nodes }
     ensures { MatchOption result
-        (through (fits (chars key.now)) (drop from (shown_hooks hooks.now)) ≡ None)
-        (λ at. IsFitting (chars key.now) hooks.now from at) }
+        (through (fits (key_at work.now.nodes node)) (drop from (shown_hooks hooks.now)) ≡ None)
+        (λ at. IsFitting (key_at work.now.nodes node) hooks.now from at) }
 {
     for at in from..hooks.len() {
-        if fits(&hooks[at], key) {
+        if fits(work, &hooks[at], node) {
             return Some(at);
         }
     }

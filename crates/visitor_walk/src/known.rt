@@ -112,10 +112,6 @@ fn kept(work: &Work, before: &Before, edits: u64, mut visit: Open) -> Open
     requires { before.now.items ≤ length work.now.log }
     ensures { result ≡ kept work.now before.now edits visit }
 {
-    // Without an edit it is known as before.
-    if visit.sure == edits {
-        return visit;
-    }
     let node = visit.node;
     if visit.sure == before.edits
         && (lost_its_own(work, before.items, before.at, node)
@@ -132,6 +128,10 @@ pub fn keep_known(work: &Work, stack: &mut Vec<Open>, before: &Before, edits: u6
     requires { before.now.items ≤ length work.now.log }
     ensures { reverse stack.new.items ≡ kept_two work.now before.now edits (reverse stack.old.items) }
 {
+    // Without an edit each visit is known as before.
+    if edits == before.edits {
+        return;
+    }
     if let Some(top) = stack.pop() {
         let top = kept(work, before, edits, top);
         if let Some(below) = stack.pop() {

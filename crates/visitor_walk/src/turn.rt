@@ -13,7 +13,7 @@ ghost use Rattle.visitor_walk.specs.Turns.{IsNext, Opened, NextDirty, Closes, Le
 use crate::fits::next_fitting;
 use crate::hooks::{RunHook, RunHooks};
 use crate::known::share;
-use crate::reads::{enter_event, exit_event, is_in_tree, key, kind};
+use crate::reads::{enter_event, exit_event, is_in_tree, kind};
 use css_text::stop::Stop;
 use node_store::cursors::Cursor;
 use node_store::id::NodeId;
@@ -69,7 +69,7 @@ fn next_call(work: &Work, hooks: &[RunHook], node: NodeId, from: usize) -> Optio
         (λ next. IsNext work.now.nodes hooks.now node from next) }
     ensures calls { (shelf : List PluginSeen) → AreOnShelf shelf hooks.now → IfSome result (λ next. IsOnShelf shelf next.due) }
 {
-    match next_fitting(hooks, from, key(work, node)) {
+    match next_fitting(work, hooks, node, from) {
         None => None,
         Some(at) => Some(Next {
             behind: at + 1,

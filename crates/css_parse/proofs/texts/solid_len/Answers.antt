@@ -1,24 +1,35 @@
-use Rattle.std.proofs.Common.{ap, sym, ◌∙◌, zero-le, arith}
-use Rattle.std.proofs.lemmas.Grind.{common_steps}
+use Rattle.std.proofs.Common.{◌≡◌, take, ap, sym, ◌∙◌, arith}
 use Rattle.css_tree.specs.Pieces.{is_blank}
-use Rattle.css_parse.proofs.Trailing.{solid_none, solid_step, solid_kept, solid_back}
+use Rattle.css_tree.proofs.Split.{solid, solid_by}
+use Rattle.css_parse.proofs.Trailing.{solid_none, solid_found, solid_before, solid_back}
 use Rattle.css_parse.proofs.texts.solid_len.Goals as goal
-use Rattle.css_parse.proofs.texts.solid_len.Goals.{then-not-is_blank, else-not-is_blank}
+use Rattle.css_parse.proofs.texts.solid_len.Goals.{Then-not-is_blank, After-loop-len}
 
-pub loop-i-init : goal.loop-i-init
-loop-i-init c = record { front = sym (solid_none is_blank); before = zero-le }
+found : (c : Then-not-is_blank) → take c.loop-len.len c.args.pieces.now ≡ solid c.args.pieces.now
+found c =
+    solid_found is_blank c.args.pieces.now c.loop-len.len c.index-pieces-len.result c.loop-len-test.true c.loop-len.invariant.within (ap is_blank (sym c.index-pieces-len.is) ∙ sym c.if-not-is_blank.ensures)
+    ∙ sym c.loop-len.invariant.same
 
-pub loop-i-preserved : goal.loop-i-preserved
-loop-i-preserved c = elim c.if-not-is_blank.branch [
-  | then-not-is_blank w ↦ record {
-    front = rw w.solid-is (solid_kept is_blank c.args.pieces.now c.loop-i.i c.index-pieces-i.result c.loop-i-test.true (ap is_blank (sym c.index-pieces-i.is) ∙ (sym c.is_blank.ensures ∙ w.if-not-is_blank.true)));
-    before = omega arith;
-  }
-  | else-not-is_blank w ↦ record {
-    front = rw w.solid-is (solid_step is_blank c.args.pieces.now c.loop-i.i c.loop-i.solid c.index-pieces-i.result c.loop-i-test.true c.loop-i.invariant.front (ap is_blank (sym c.index-pieces-i.is) ∙ (sym c.is_blank.ensures ∙ w.if-not-is_blank.false)));
-    before = omega arith;
-  }
-]
+all : (c : After-loop-len) → take 0 c.args.pieces.now ≡ solid c.args.pieces.now
+all c =
+    let e : c.loop-len.len ≡ 0 = omega (arith, c.loop-len-test.false) in
+    sym (c.loop-len.invariant.same ∙ (ap (λ k. solid_by is_blank (take k c.args.pieces.now)) e ∙ solid_none is_blank))
+
+pub loop-len-preserved : goal.loop-len-preserved
+loop-len-preserved c = record {
+  same = c.loop-len.invariant.same
+      ∙ solid_before is_blank c.args.pieces.now c.loop-len.len c.index-pieces-len.result c.loop-len-test.true c.loop-len.invariant.within (ap is_blank (sym c.index-pieces-len.is) ∙ sym c.if-not-is_blank.ensures);
+  within = omega (arith, c.loop-len.invariant.within);
+}
+
+pub returns-then-not-is_blank-clause-front : goal.returns-then-not-is_blank-clause-front
+returns-then-not-is_blank-clause-front c = found (goal.at.returns-then-not-is_blank-clause-front c).Then-not-is_blank
+
+pub returns-then-not-is_blank-clause-back : goal.returns-then-not-is_blank-clause-back
+returns-then-not-is_blank-clause-back c = solid_back is_blank c.loop-len.len c.args.pieces.now (found (goal.at.returns-then-not-is_blank-clause-back c).Then-not-is_blank)
+
+pub returns-clause-front : goal.returns-clause-front
+returns-clause-front c = all (goal.at.returns-clause-front c).After-loop-len
 
 pub returns-clause-back : goal.returns-clause-back
-returns-clause-back c = solid_back is_blank _ _ (grind (arith, common_steps))
+returns-clause-back c = solid_back is_blank 0 c.args.pieces.now (all (goal.at.returns-clause-back c).After-loop-len)

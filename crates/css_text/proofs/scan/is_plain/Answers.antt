@@ -1,4 +1,4 @@
-use Rattle.std.proofs.Common.{refl, get_or, false, arith, not, ◌||◌, nat_eq}
+use Rattle.std.proofs.Common.{refl, get_or, false, arith, not, ◌||◌}
 use Rattle.std.specs.Prelude.{◌==◌}
 use Rattle.std.proofs.lemmas.Bool.{agree_below_at}
 use Rattle.css_text.specs.Characters.{is_space, is_quote, is_single, ends_word}

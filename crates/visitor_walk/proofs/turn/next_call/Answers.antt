@@ -1,9 +1,7 @@
-use Rattle.std.proofs.Common.{◌≡◌, ◌-◌, suc, Some, subst, ◌∙◌, ap, refl, drop, arith}
+use Rattle.std.proofs.Common.{◌≡◌, ◌-◌, suc, ◌∙◌, ap, refl, arith}
 use Rattle.std.proofs.lemmas.Option.{slice_get_read}
-use Rattle.node_store.specs.Cursors.{through}
-use Rattle.visitor_machine.specs.Hooks.{fits}
 use Rattle.visitor_machine.specs.Machine.{called}
-use Rattle.visitor_walk.specs.Groups.{shown_hook, shown_hooks}
+use Rattle.visitor_walk.specs.Groups.{shown_hook}
 use Rattle.visitor_walk.proofs.turn.next_call.Goals as goal
 
 pub returns-in-Some-clause-next : goal.returns-in-Some-clause-next
@@ -13,7 +11,7 @@ returns-in-Some-clause-next c =
     let same : h.hook ≡ c.index-hooks-at.result = let e = h.is in cc in
     record {
       x = (shown_hook h.hook, suc c.in-Some.at - c.args.from);
-      found = subst (λ k. through (fits k) (drop c.args.from (shown_hooks c.args.hooks.now)) ≡ Some (shown_hook h.hook, suc c.in-Some.at - c.args.from)) c.key.ensures h.first;
+      found = h.first;
       behind = let l = h.after in omega arith;
       call = ap (λ r. called c.args.node (shown_hook r)) same ∙ rw c.due_at.ensures refl;
     }
