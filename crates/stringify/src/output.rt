@@ -45,6 +45,16 @@ impl Output {
         }
     }
 
+    // Nothing, with room for so many bytes and starts.
+    pub fn with_capacity(alloc: Global, bytes: usize, starts: usize) -> Result<Output, AllocError>
+        ensures { IfOk result (λ out. out ≡ record { text = []; starts = [] }) }
+    {
+        Ok(Output {
+            text: String::with_capacity(alloc, bytes)?,
+            starts: Vec::with_capacity(alloc, starts)?,
+        })
+    }
+
     pub fn push_str(&mut self, s: &str) -> Result<(), AllocError>
         ensures { OnOk result (self.new ≡ put (chars s.now) self.old) }
     {

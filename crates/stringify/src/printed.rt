@@ -37,7 +37,9 @@ pub fn print(alloc: Global, work: &Work) -> Result<Printed, AllocError>
     ensures starts { IfOk result (λ p. map (λ s. s.at) p.starts.items ≡ starts (tree_of work.now)) }
 {
     work.facts();
-    let mut out = Output::new(alloc);
+    // Most sheets are printed about as long as they were.
+    let bytes = work.text().as_str().len();
+    let mut out = Output::with_capacity(alloc, bytes, work.node_total() as usize)?;
     write_body(work, NodeId::new(0), &mut out)?;
     let printed = out.finish(alloc)?;
     Ok(printed)

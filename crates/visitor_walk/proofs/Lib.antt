@@ -20,6 +20,7 @@ pub mod Walking
 pub mod Picking
 pub mod Rooting
 pub mod Ending
+pub mod Reserved
 pub mod LastItems
 pub mod Saying
 pub mod Owning

@@ -162,12 +162,8 @@ fn call_in_passes(
     Ok(None)
 }
 
-/// Calls the hooks of the picked plugins as PostCSS 8 does: each Once hook with the root, then passes over the tree while
-/// the root is dirty, then each OnceExit hook with the root. The log gets the whole run. `budget` is how many calls are
-/// allowed, and `edit_budget` how many edits.
-///
-/// Fails for want of memory alone; the log is then the front of a run.
-pub fn walk(
+// The walk, whatever is reserved in the log.
+fn walk_hooks(
     alloc: Global,
     work: &mut Work,
     shelf: &mut Vec<Plugin>,
@@ -201,4 +197,30 @@ pub fn walk(
     }
     work.note(Item::End)?;
     Ok(WalkEnd::Done)
+}
+
+/// Calls the hooks of the picked plugins as PostCSS 8 does: each Once hook with the root, then passes over the tree while
+/// the root is dirty, then each OnceExit hook with the root. The log gets the whole run. `budget` is how many calls are
+/// allowed, and `edit_budget` how many edits.
+///
+/// Fails for want of memory alone; the log is then the front of a run.
+pub fn walk(
+    alloc: Global,
+    work: &mut Work,
+    shelf: &mut Vec<Plugin>,
+    picked: &[usize],
+    budget: u64,
+    edit_budget: u64,
+) -> Result<WalkEnd, AllocError>
+    requires places { All (λ place. place < vec_len shelf.old) picked.now }
+    requires few { vec_len shelf.old < 4294967296 }
+    requires hooks_few { AreFew shelf.old.items }
+    ensures { let seen = shelf_seen (λ b. (⟦<dyn Visitor as Visitor>⟧ b.vtable).told b.value) (λ b. (⟦<dyn Visitor as Visitor>⟧ b.vtable).said b.value) (λ b. (⟦<dyn Visitor as Visitor>⟧ b.vtable).duty b.value) (λ b. (⟦<dyn Visitor as Visitor>⟧ b.vtable).left b.value) in
+        Walks work.old work.new (seen shelf.old.items) (seen shelf.new.items) picked.now budget edit_budget result }
+{
+    // Room for the entry and the leave of each node, and for a call and its end where plugins are picked. Without it the
+    // log grows as it goes.
+    let each = if picked.is_empty() { 2 } else { 4 };
+    let _ = work.reserve_log(work.node_total().saturating_mul(each));
+    walk_hooks(alloc, work, shelf, picked, budget, edit_budget)
 }
