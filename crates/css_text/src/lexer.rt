@@ -56,6 +56,7 @@ pub enum LexFault {
 
 /// The piece at the index: its kind, and where it ends.
 #[tactic(auto, using(crate::proofs::Found::found_steps))]
+#[inline(always)]
 fn piece_at(s: &[u8], at: usize) -> Result<(PieceKind, usize), LexFault>
     requires { at < length s.now }
     ensures within { IfOk result (λ p. (at < p.1) × (p.1 ≤ length s.now)) }
