@@ -15,7 +15,10 @@ trap 'rm -rf "$work"' EXIT
 mkdir -p "$work/crates/css_text" "$work/crates/lexer_speed/src"
 cp "$top/HANDLES" "$work/"
 (cd "$top/crates/css_text" && tar cf - src specs proofs) | (cd "$work/crates/css_text" && tar xf -)
-printf 'css_text: thiserror\nlexer_speed: css_text\n' >"$work/crates.txt"
+{
+    grep '^css_text:' "$top/crates.txt"
+    echo 'lexer_speed: css_text'
+} >"$work/crates.txt"
 
 cat >"$work/rule.css" <<'CSS'
 /* Navigation */

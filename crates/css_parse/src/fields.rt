@@ -205,6 +205,7 @@ fn past_colon(rest: &[Piece], front: usize) -> usize
 }
 
 /// A declaration, of a word and what stands behind it.
+#[inline(always)]
 pub fn declaration(
     texts: Texts,
     before: Gap,

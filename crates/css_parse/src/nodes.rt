@@ -45,6 +45,7 @@ fn span(start: u32, end: u32) -> Span
     }
 }
 
+/// A comment that stands by itself.
 pub fn comment_node(
     texts: Texts,
     parent: u32,
@@ -61,6 +62,7 @@ pub fn comment_node(
 }
 
 /// A declaration, or an at-rule without a block.
+#[inline(always)]
 pub fn leaf_node(texts: Texts, parent: u32, gap: Gap, run: &[Piece]) -> Result<NodeAt, AllocError>
     requires some { 0 < length run.now }
     requires behind { IsBehind (sheet texts) gap run.now }

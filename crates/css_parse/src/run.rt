@@ -55,6 +55,7 @@ fn is_colon(head: Head) -> bool
 }
 
 impl<'t> Run<'t> {
+    /// No pieces.
     #[tactic(auto, using(std::proofs::lemmas::Grind::common_steps, crate::proofs::Heads::head_steps), unfolding(crate::specs::Head::head_of))]
     pub fn new(alloc: Global) -> Run<'t>
         ensures { result ≡ [] }
@@ -65,6 +66,7 @@ impl<'t> Run<'t> {
         }
     }
 
+    /// One more piece. It fails for want of memory alone.
     #[tactic(auto, using(std::proofs::lemmas::Grind::common_steps, crate::proofs::Heads::head_steps), unfolding(crate::specs::Head::head_of))]
     pub fn push(&mut self, piece: Piece<'t>) -> Result<(), AllocError>
         ensures { IfOk result (λ _. self.new ≡ self.old ++ piece.entry ∷ []) }
@@ -78,6 +80,7 @@ impl<'t> Run<'t> {
         Ok(())
     }
 
+    /// Drops the pieces, and keeps their room.
     #[tactic(auto, using(std::proofs::lemmas::Grind::common_steps, crate::proofs::Heads::head_steps), unfolding(crate::specs::Head::head_of))]
     pub fn clear(&mut self)
         ensures { self.new ≡ [] }
@@ -86,6 +89,7 @@ impl<'t> Run<'t> {
         self.head = Head::Blank;
     }
 
+    /// The pieces in the order of the text.
     pub fn as_slice(&self) -> &[Piece<'t>]
         ensures { result.now ≡ self.now }
     {

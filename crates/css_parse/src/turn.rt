@@ -1,7 +1,7 @@
 // What a piece is to the statement or at-rule in progress, and the fault that it may be.
 ghost use Rattle.std.specs.Prelude.{◌≡◌, ◌<◌, ◌≤◌, ℕ, List, [], reverse, length, map};
 ghost use Rattle.css_tree.specs.Pieces.{Piece as Seen, shape};
-ghost use Rattle.css_tree.specs.Turn.{Turn, awaits, idle, busy, turn};
+ghost use Rattle.css_tree.specs.Turn.{Turn, awaits, idle, busy, is_custom, turn};
 ghost use Rattle.css_tree.specs.Fault.{unknown, nameless, fits_by, fits_end, state};
 ghost use Rattle.css_parse.specs.Shapes.{named};
 ghost use Rattle.css_parse.specs.Steps.{IsStep, IsClosing, opening_of};
@@ -81,8 +81,8 @@ fn close_bracket(awaited: &[Piece], shape: Shape) -> Step
 }
 
 /// With a statement in progress, a custom property or another.
-fn busy(custom: bool, awaited: &[Piece], shape: Shape) -> Step
-    ensures { (p : Seen) → IsStep result (busy custom (reverse awaited.now) p (named shape)) (reverse awaited.now) p }
+fn busy(run: &Run, awaited: &[Piece], shape: Shape) -> Step
+    ensures { (p : Seen) → IsStep result (busy (is_custom run.now) (reverse awaited.now) p (named shape)) (reverse awaited.now) p }
 {
     match shape {
         Shape::RoundOpen | Shape::SquareOpen => Step::Await,
@@ -90,7 +90,7 @@ fn busy(custom: bool, awaited: &[Piece], shape: Shape) -> Step
         Shape::SquareClose => close_bracket(awaited, shape),
         Shape::BraceClose if awaited.is_empty() => Step::Close,
         Shape::BraceClose => close_bracket(awaited, shape),
-        Shape::BraceOpen if custom => Step::Await,
+        Shape::BraceOpen if run.is_custom() => Step::Await,
         Shape::BraceOpen if awaited.is_empty() => Step::Open,
         Shape::Semicolon if awaited.is_empty() => Step::End,
         _ => Step::Keep,
@@ -105,7 +105,7 @@ pub fn turn(run: &Run, awaited: &[Piece], form: Shape) -> Step
     if run.as_slice().is_empty() {
         idle(form)
     } else {
-        busy(run.is_custom(), awaited, form)
+        busy(run, awaited, form)
     }
 }
 

@@ -9,3 +9,4 @@ pub mod Notes
 pub mod Answers
 pub mod Passing
 pub mod Growth
+pub mod Examples

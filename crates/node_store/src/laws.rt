@@ -1,6 +1,7 @@
 // What the definitions say together. The functions ensure it and do nothing.
 ghost use Rattle.node_store.specs.Fresh.{FreshTree};
 ghost use Rattle.node_store.specs.Copies.{CopiesCan};
+ghost use Rattle.node_store.specs.Examples.{Allowed, Changing, Moved, Next, NextDirty, Reads, Touched, Marked};
 
 /// The tree of a forest that a text was read as is the tree of that reading.
 pub fn fresh_tree()
@@ -10,4 +11,16 @@ pub fn fresh_tree()
 /// Each edit of a tree's copy may be made at its turn, and changes something.
 pub fn copies_can()
     ensures { CopiesCan }
+{}
+
+/// The examples beside the definitions of reading, edits and cursors.
+pub fn examples()
+    ensures allowed { Allowed }
+    ensures changing { Changing }
+    ensures moved { Moved }
+    ensures next { Next }
+    ensures next_dirty { NextDirty }
+    ensures reads { Reads }
+    ensures touched { Touched }
+    ensures marked { Marked }
 {}

@@ -4,7 +4,7 @@ ghost use Rattle.std.specs.Prelude.{◌≡◌};
 use crate::fault::TreeFault;
 use crate::id::NodeId;
 use crate::item::{Edit, Item};
-use crate::laws::{copies_can, fresh_tree};
+use crate::laws::{copies_can, examples, fresh_tree};
 use crate::trees::{
     at_rule, comment, declaration, empty_sheet, make, put, reserve, rule, set, shape, take,
 };
@@ -47,6 +47,7 @@ fn faults(rt: HostRuntime) -> Result<(), Fail> {
     }
     fresh_tree();
     copies_can();
+    examples();
     Ok(())
 }
 

@@ -5,3 +5,4 @@ pub mod Effect
 pub mod Visit
 pub mod Calls
 pub mod Shelf
+pub mod Examples

@@ -3,6 +3,7 @@
 
 pub mod fn_visitor;
 pub mod hook;
+pub mod laws;
 pub mod plugin;
 pub mod recorder;
 #[cfg(test)]

@@ -3,6 +3,7 @@ ghost use Rattle.std.specs.Prelude.{◌≡◌, [], IfOk};
 
 use crate::fn_visitor::{Act, FnVisitor};
 use crate::hook::Hook;
+use crate::laws::examples;
 use crate::plugin::{Plugin, call_hook};
 use crate::recorder::Recorder;
 use crate::visitor::{Duty, VisitFault, Visitor};
@@ -100,6 +101,11 @@ fn is_no(answer: Result<(), VisitFault>) -> bool {
         Err(VisitFault::Plugin(text)) => text.as_str() == "no",
         _ => false,
     }
+}
+
+#[test]
+fn laws_run(_rt: HostRuntime) {
+    examples();
 }
 
 #[test]

@@ -15,6 +15,7 @@ pub struct Counts {
 }
 
 impl Counts {
+    /// Three zeros.
     pub fn nothing() -> Counts
         ensures { result ≡ nothing_of }
     {
@@ -25,6 +26,7 @@ impl Counts {
         }
     }
 
+    /// Adds the other counts, each to its own.
     pub fn add(&mut self, other: &Counts)
         requires { size self.old + size other.now < weight 101 }
         ensures { self.new ≡ plus self.old other.now }
@@ -42,12 +44,14 @@ impl Counts {
         self.a.compare(&other.a).then(by_last).is_lt()
     }
 
+    /// The greater of the two; this one where they are equal.
     pub fn greater(self, other: Counts) -> Counts
         ensures { result ≡ greater_of self other }
     {
         if self.is_less(&other) { other } else { self }
     }
 
+    /// Each count, but at most 65,535.
     pub fn cut(&self) -> Specificity
         ensures { result ≡ cut_of self.now }
     {

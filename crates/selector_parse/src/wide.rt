@@ -67,12 +67,14 @@ fn cut_words(words: &[u64; WORDS]) -> u16
 }
 
 impl Wide {
+    /// Zero.
     pub fn zero() -> Wide
         ensures { result ≡ 0 }
     {
         Wide { words: [0; WORDS] }
     }
 
+    /// Adds one.
     pub fn increase(&mut self)
         requires { self.old + 1 < weight 101 }
         ensures { self.new ≡ self.old + 1 }
@@ -80,6 +82,7 @@ impl Wide {
         add_words(&mut self.words, &[1]);
     }
 
+    /// Adds the other number.
     pub fn add(&mut self, other: &Wide)
         requires { self.old + other.now < weight 101 }
         ensures { self.new ≡ self.old + other.now }
@@ -87,6 +90,7 @@ impl Wide {
         add_words(&mut self.words, &other.words);
     }
 
+    /// Which of the two is less.
     pub fn compare(&self, other: &Wide) -> Ordering
         ensures { result ≡ nat_cmp self.now other.now }
     {

@@ -27,6 +27,7 @@ pub struct Script {
 }
 
 impl Script {
+    /// A script of these steps, before its first call.
     pub fn new(alloc: Global, steps: &[Step]) -> Result<Script, AllocError> {
         Ok(Script {
             alloc,

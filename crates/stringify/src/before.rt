@@ -72,7 +72,7 @@ fn write_before(
     }
 }
 
-// What stands before a child, and its body up to its children.
+/// Prints what stands before a child, and its body up to its children.
 pub fn begin_child(
     work: &Work,
     parent: NodeId,

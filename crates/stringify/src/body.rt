@@ -124,7 +124,7 @@ fn write_comment(text: &NodeText, out: &mut Output) -> Result<(), AllocError>
     }
 }
 
-// The body of a node up to its children.
+/// Prints the body of a node up to its children.
 pub fn write_opening(text: &NodeText, out: &mut Output) -> Result<(), AllocError>
     ensures { OnOk result (out.new ≡ put (opening text.now) out.old) }
 {

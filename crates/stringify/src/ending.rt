@@ -116,7 +116,7 @@ fn write_semicolon(work: &Work, top: NodeId, n: NodeId, out: &mut Output) -> Res
     }
 }
 
-// The body of n behind its children, and the `;` behind n where n isn't the top of what is printed.
+/// Prints the body of n behind its children, and the `;` behind n where n isn't the top of what is printed.
 pub fn end_node(
     work: &Work,
     top: NodeId,

@@ -16,6 +16,7 @@ use node_store::work::Work;
 use std::alloc::{AllocError, Global};
 use std::marker::Model;
 
+/// A tree under way, as the list of its nodes.
 #[derive(Drop)]
 pub struct Entries {
     nodes: Vec<NodeAt>,
@@ -57,6 +58,7 @@ fn fits(parent: &NodeText, child: &NodeText) -> bool
 }
 
 impl Entries {
+    /// A root alone, with that text before the end of the sheet.
     pub fn new(alloc: Global, after: &str) -> Result<Entries, AllocError> {
         let block = Block {
             semicolon: false,
@@ -113,6 +115,7 @@ impl Entries {
         (self.nodes.len() - 1) as u32
     }
 
+    /// The work of the nodes, over an empty text.
     pub fn work(self, alloc: Global) -> Result<Work, AllocError> {
         let Entries { nodes } = self;
         let text = empty_text(alloc)?;
@@ -127,6 +130,7 @@ fn source(alloc: Global, text: &str) -> Result<Source, AllocError> {
     })
 }
 
+/// An at-rule with an empty block.
 pub fn at_rule(alloc: Global, name: &str, params: &str) -> Result<NodeText, AllocError> {
     Ok(NodeText::AtRule {
         before: Some(Txt::new(alloc, "")?),
@@ -141,6 +145,7 @@ pub fn at_rule(alloc: Global, name: &str, params: &str) -> Result<NodeText, Allo
     })
 }
 
+/// A rule with an empty block.
 pub fn rule(alloc: Global, selector: &str) -> Result<NodeText, AllocError> {
     Ok(NodeText::Rule {
         before: Some(Txt::new(alloc, "")?),
@@ -166,6 +171,7 @@ pub fn bare_rule(alloc: Global, selector: &str) -> Result<NodeText, AllocError> 
     })
 }
 
+/// A declaration of the property `b` with the value `c`.
 pub fn decl(
     alloc: Global,
     before: Option<Txt>,
@@ -183,6 +189,7 @@ pub fn decl(
     })
 }
 
+/// A comment with one space before its text.
 pub fn comment(alloc: Global, text: &str) -> Result<NodeText, AllocError> {
     Ok(NodeText::Comment {
         before: Some(Txt::new(alloc, "")?),

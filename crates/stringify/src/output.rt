@@ -11,6 +11,7 @@ use node_store::id::NodeId;
 use std::alloc::{AllocError, Global};
 use std::marker::Model;
 
+/// A text as it is printed, and at which bytes its nodes start. A clause sees its characters, and the starts.
 #[derive(Drop)]
 pub struct Output {
     text: String,
@@ -36,6 +37,7 @@ fn is_space(c: char) -> bool
 }
 
 impl Output {
+    /// Nothing so far.
     pub fn new(alloc: Global) -> Output
         ensures { result ≡ record { text = []; starts = [] } }
     {
@@ -45,7 +47,7 @@ impl Output {
         }
     }
 
-    // Nothing, with room for so many bytes and starts.
+    /// Nothing so far, with room for so many bytes and starts.
     pub fn with_capacity(alloc: Global, bytes: usize, starts: usize) -> Result<Output, AllocError>
         ensures { IfOk result (λ out. out ≡ record { text = []; starts = [] }) }
     {
@@ -55,6 +57,7 @@ impl Output {
         })
     }
 
+    /// Prints a text.
     pub fn push_str(&mut self, s: &str) -> Result<(), AllocError>
         ensures { OnOk result (self.new ≡ put (chars s.now) self.old) }
     {
@@ -62,6 +65,7 @@ impl Output {
         Ok(())
     }
 
+    /// Prints a character.
     pub fn push(&mut self, c: char) -> Result<(), AllocError>
         ensures { OnOk result (self.new ≡ put (c ∷ []) self.old) }
     {
@@ -69,7 +73,7 @@ impl Output {
         Ok(())
     }
 
-    // The body of node n starts here.
+    /// The body of node n starts here.
     pub fn begin(&mut self, n: NodeId) -> Result<(), AllocError>
         ensures { OnOk result (self.new ≡ begin n self.old) }
     {
@@ -78,7 +82,7 @@ impl Output {
         Ok(())
     }
 
-    // A line feed, and four spaces for each level.
+    /// Prints a line feed, and four spaces for each level.
     pub fn push_new_line(&mut self, depth: usize) -> Result<(), AllocError>
         requires { depth < 2 ^ 32 }
         ensures { OnOk result (self.new ≡ put (new_line depth) self.old) }
@@ -96,7 +100,7 @@ impl Output {
         if is_space(c) { self.push(c) } else { Ok(()) }
     }
 
-    // The white space of a text.
+    /// Prints the white space of a text alone.
     pub fn push_spaces(&mut self, s: &str) -> Result<(), AllocError>
         ensures { OnOk result (self.new ≡ put (filter is_space (chars s.now)) self.old) }
     {
@@ -106,6 +110,7 @@ impl Output {
         Ok(())
     }
 
+    /// The text and the starts. It fails for want of memory alone.
     pub fn finish(self, alloc: Global) -> Result<Printed, AllocError>
         ensures text { IfOk result (λ printed. printed.text ≡ self.text) }
         ensures starts { IfOk result (λ printed. printed.starts.items ≡ self.starts) }

@@ -8,6 +8,7 @@ use css_tree::node::NodeText;
 use node_store::id::NodeId;
 use node_store::work::Work;
 
+/// The texts of a node, as the store's `node_text`.
 pub fn text_of(work: &Work, n: NodeId) -> &NodeText
     requires { n < length work.now.nodes }
     ensures { result.now ≡ text_of work.now.nodes n }
@@ -18,6 +19,7 @@ pub fn text_of(work: &Work, n: NodeId) -> &NodeText
     }
 }
 
+/// The node that a node stands in; none for the root and for a loose node.
 pub fn parent_of(work: &Work, n: NodeId) -> Option<NodeId>
     requires { n < length work.now.nodes }
     ensures { result ≡ parent_of work.now.nodes n }
@@ -28,6 +30,7 @@ pub fn parent_of(work: &Work, n: NodeId) -> Option<NodeId>
     }
 }
 
+/// The first node in a node's block; none where there is none.
 pub fn first_child(work: &Work, n: NodeId) -> Option<NodeId>
     requires { n < length work.now.nodes }
     ensures { result ≡ slice_get (children_of work.now.nodes n) 0 }
@@ -38,6 +41,7 @@ pub fn first_child(work: &Work, n: NodeId) -> Option<NodeId>
     }
 }
 
+/// The node behind a node in the same block; none behind the last.
 pub fn next_sibling(work: &Work, n: NodeId) -> Option<NodeId>
     requires { n < length work.now.nodes }
     ensures { result ≡ next_sibling_of work.now.nodes n }
@@ -55,7 +59,7 @@ fn levels_at(ancestor: NodeId) -> usize
     if ancestor.number() > 0 { 1 } else { 0 }
 }
 
-// The number of the node's ancestors but the root.
+/// The number of the node's ancestors but the root.
 pub fn depth_of(work: &Work, n: NodeId) -> usize
     requires { n < length work.now.nodes }
     ensures { result ≡ depth_of work.now.nodes n }
@@ -76,7 +80,7 @@ fn is_comment(text: &NodeText) -> bool
     matches!(text, NodeText::Comment { .. })
 }
 
-// Whether the node and the siblings behind it are all comments. It stops at the first that isn't one.
+/// Whether the node and the siblings behind it are all comments. It stops at the first that isn't one.
 pub fn are_comments(work: &Work, first: Option<NodeId>) -> bool
     requires { IsGiven work.now.nodes first }
     ensures { result ≡ are_comments (plain work.now.nodes (number_trees work.now.nodes (from_number work.now.nodes first))) }

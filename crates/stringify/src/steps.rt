@@ -14,7 +14,7 @@ use node_store::id::NodeId;
 use node_store::work::Work;
 use std::alloc::AllocError;
 
-// A node of that depth. Its beginning is printed, or all of it with the `;` behind it.
+/// A node of that depth. Its beginning is printed, or all of it with the `;` behind it.
 #[derive(Clone, Copy)]
 pub struct Step {
     node: NodeId,

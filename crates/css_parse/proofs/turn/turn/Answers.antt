@@ -1,5 +1,6 @@
-use Rattle.std.proofs.Common.{◌≡◌, [], reverse, ap, arith}
+use Rattle.std.proofs.Common.{◌≡◌, [], reverse, refl, ap, arith}
 use Rattle.std.proofs.lemmas.Grind.{common_steps}
+use Rattle.css_tree.specs.Turn.{is_custom}
 use Rattle.css_parse.specs.Shapes.{named}
 use Rattle.css_parse.proofs.Turns.{idle_turn, busy_turn}
 use Rattle.css_parse.proofs.turn.turn.Goals as goal
@@ -12,4 +13,4 @@ returns-then-is_empty c =
 pub returns-else-is_empty : goal.returns-else-is_empty
 returns-else-is_empty c =
     let n : c.args.run.now ≡ [] → ⊥ = λ e. grind (arith, common_steps) in
-    λ p h. busy_turn c.busy.result c.args.run.now (reverse c.args.awaited.now) p (named c.args.form) c.is_custom.result n c.is_custom.ensures h (c.busy.ensures p)
+    λ p h. busy_turn c.busy.result c.args.run.now (reverse c.args.awaited.now) p (named c.args.form) (is_custom c.args.run.now) n refl h (c.busy.ensures p)
