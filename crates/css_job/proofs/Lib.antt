@@ -14,6 +14,7 @@ mod Stand
 mod Ordered
 mod Unheard
 mod Freshly
+mod Unedited
 mod Writes
 mod Transforming
 mod Commands

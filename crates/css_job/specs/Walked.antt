@@ -1,13 +1,14 @@
 -- The walk of a run, and what it left.
 use Rattle.std.specs.Prelude.{◌≡◌, ◌≤◌, ℕ, List, [], Option, Some, None}
+use Rattle.css_tree.specs.Print.{print}
 use Rattle.node_store.specs.declared.item.Item.{Item}
-use Rattle.node_store.specs.Forest.{Forest, IsForest}
+use Rattle.node_store.specs.Forest.{Forest, IsForest, tree_of}
 use Rattle.node_store.specs.Fresh.{IsFresh}
 use Rattle.plugin_api.specs.Shelf.{PluginSeen}
 use Rattle.visitor_machine.specs.Hooks.{PickedHook}
 use Rattle.visitor_machine.specs.Machine.{State}
 use Rattle.visitor_machine.specs.Follow.{follow, start}
-use Rattle.visitor_machine.specs.Calls.{calls_in}
+use Rattle.visitor_machine.specs.Calls.{calls_in, IsQuiet}
 use Rattle.visitor_machine.specs.Settled.{SettlesAt}
 use Rattle.visitor_walk.specs.declared.walk_end.WalkEnd.TheVariants.{Done}
 use Rattle.visitor_walk.specs.Picked.{picked_hooks}
@@ -51,3 +52,7 @@ IsWalked shelf s (Some turn) r = Walked (hooks_of shelf turn) (calls_of turn) (e
 abbrev pub IsKept : List ℕ → Option Turn → Reached → Option Forest → Type 0
 IsKept s None r work = work ≡ None
 IsKept s (Some turn) r work = (f : Forest) × (work ≡ Some f) × (f.text ≡ s) × (f.nodes ≡ r.nodes) × (f.log ≡ [])
+
+-- where nothing was edited, the tree prints as the text that it was read from
+abbrev pub KeepsText : List Item → Forest → Type 0
+KeepsText log f = IsQuiet log → print (tree_of f) ≡ f.text

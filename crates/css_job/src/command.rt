@@ -1,12 +1,15 @@
 // What the commands do with an input's text.
-ghost use Rattle.std.specs.Prelude.{◌≡◌, ◌<◌, ◌≤◌, ◌^◌, ℕ, List, [], IfOk, OnErr, Err, length, map};
+ghost use Rattle.std.specs.Prelude.{◌≡◌, ◌<◌, ◌≤◌, ◌^◌, ◌↔◌, ℕ, List, [], IfOk, OnErr, Err, IsTrue, length, map};
 ghost use Rattle.css_text.specs.Ahead.{byte_len};
 ghost use Rattle.css_tree.specs.Tree.{Tree};
+ghost use Rattle.css_tree.specs.Print.{print};
 ghost use Rattle.css_tree.specs.Numbered.{numbered};
 ghost use Rattle.plugin_api.specs.declared.visitor.Told.{Told};
 ghost use Rattle.plugin_api.specs.declared.visitor.Duty.{Duty};
 ghost use Rattle.plugin_api.specs.Shelf.{PluginSeen, shelf_seen};
+ghost use Rattle.node_store.specs.Forest.{tree_of};
 ghost use Rattle.node_store.specs.Fresh.{IsFresh};
+ghost use Rattle.visitor_machine.specs.Calls.{IsQuiet};
 ghost use Rattle.visitor_walk.specs.Groups.{AreFew};
 ghost use Rattle.std.specs.Prelude.{vec_len, ◌++◌};
 ghost use Rattle.std.specs.List.{All};
@@ -15,6 +18,7 @@ ghost use Rattle.css_job.specs.Plan.{Reached, reported, text_plan, budget_for, f
 ghost use Rattle.css_job.specs.Shown.{warning_seen};
 ghost use Rattle.css_job.specs.CommandSeen.{shelf_names, options_seen, command_seen, Picks};
 ghost use Rattle.css_job.specs.Stages.{piece_of, plan_seen, stage_seen, Planned};
+ghost use Rattle.css_job.specs.Walked.{KeepsText};
 
 use crate::empty_blocks::empty_block_warnings;
 use crate::fault::Fault;
@@ -67,7 +71,31 @@ fn fault_of(end: WalkEnd, budget: u64) -> Option<Fault>
     }
 }
 
-// What is written after a walk: its trace, and the printing where it is done.
+// Whether nothing was edited.
+fn is_quiet(log: &[Item]) -> bool
+    ensures { IsTrue result ↔ IsQuiet log.now }
+{
+    for item in log {
+        if let Item::Edit(_) = item {
+            return false;
+        }
+    }
+    true
+}
+
+// The tree's text. Where nothing was edited it is the text that was read, whose string it shares.
+fn tree_text(alloc: Global, log: &[Item], work: &Work) -> Result<Txt, AllocError>
+    requires { KeepsText log.now work.now }
+    ensures { IfOk result (λ text. text ≡ print (tree_of work.now)) }
+{
+    if is_quiet(log) {
+        return work.text().as_txt().share();
+    }
+    let printed = print(alloc, work)?;
+    Ok(printed.text)
+}
+
+// What is written after a walk: its trace, and the tree's text where it is done.
 fn walk_writes(
     alloc: Global,
     shelf: &Vec<Plugin>,
@@ -76,6 +104,7 @@ fn walk_writes(
     end: &WalkEnd,
     work: &Work,
 ) -> Result<Vec<Write>, AllocError>
+    requires { KeepsText log.now work.now }
     ensures { IfOk result (λ writes. map piece_of writes.items ≡ traced is_traced (shelf_names shelf.now.items) log.now ++ printed end.now work.now.nodes) }
 {
     let mut writes = Vec::new(alloc);
@@ -87,10 +116,10 @@ fn walk_writes(
         })?;
     }
     if let WalkEnd::Done = end {
-        let printed = print(alloc, work)?;
+        let printed = tree_text(alloc, log, work)?;
         writes.push(Write {
             to: Target::StdOut,
-            text: printed.text,
+            text: printed,
         })?;
     }
     Ok(writes)
@@ -106,6 +135,7 @@ fn walk_plan(
     edit_budget: u64,
     work: &Work,
 ) -> Result<Plan, AllocError>
+    requires { KeepsText log.now work.now }
     ensures { IfOk result (λ plan. plan_seen plan ≡ walk_plan is_traced (shelf_names shelf.now.items) edit_budget (record { log = log.now; end = end; nodes = work.now.nodes })) }
 {
     let caller = caller(alloc, shelf, log)?;

@@ -160,7 +160,7 @@ fn transforms(rt: HostRuntime) -> Result<(), Fail> {
         assert_eq!(rt; result.out.bytes(), input);
         assert_eq!(rt; result.err.bytes(), b"".as_slice());
     }
-    let refused: [(&[u8], &str, &str); 9] = [
+    let refused: [(&[u8], &str, &str); 10] = [
         (
             b"a{b:\"x",
             "syntax",
@@ -180,6 +180,11 @@ fn transforms(rt: HostRuntime) -> Result<(), Fail> {
             "csswork: <stdin>:1:5: UnclosedBracket\n",
         ),
         (b"/*", "syntax", "csswork: <stdin>:1:1: UnclosedComment\n"),
+        (
+            b"a{b:url(x",
+            "syntax",
+            "csswork: <stdin>:1:5: UnclosedUrl\n",
+        ),
         (
             b"\na{b:url(x",
             "syntax",

@@ -4,6 +4,7 @@ use crate::trace::{caller, trace};
 use crate::trace_laws::trace_examples;
 use css_text::txt::Txt;
 use css_tree::node::{Field, NodeText, Raw};
+use node_store::boxed_text::BoxedText;
 use node_store::id::NodeId;
 use node_store::item::{Edit, Event, Item, Moment};
 use plugin_api::plugin::Plugin;
@@ -51,7 +52,7 @@ fn push_sets(alloc: Global, log: &mut Vec<Item>) -> Result<(), AllocError> {
     Ok(())
 }
 
-fn push_moves(log: &mut Vec<Item>, text: NodeText) -> Result<(), AllocError> {
+fn push_moves(log: &mut Vec<Item>, text: BoxedText) -> Result<(), AllocError> {
     log.push(Item::Edit(Edit::New {
         node: id(13),
         text,
@@ -66,13 +67,14 @@ fn push_moves(log: &mut Vec<Item>, text: NodeText) -> Result<(), AllocError> {
     Ok(())
 }
 
-fn comment(alloc: Global) -> Result<NodeText, AllocError> {
-    Ok(NodeText::Comment {
+fn comment(alloc: Global) -> Result<BoxedText, AllocError> {
+    let text = NodeText::Comment {
         before: None,
         left: Txt::new(alloc, "")?,
         text: Txt::new(alloc, "k")?,
         right: Txt::new(alloc, "")?,
-    })
+    };
+    BoxedText::new(alloc, text)
 }
 
 // Each kind of item, though a walk ends without more where a call has failed.

@@ -1,14 +1,16 @@
 -- The loop over the pieces of a text.
-use Rattle.std.proofs.Common.{◌≡◌, ℕ, ◌+◌, ◌-◌, ◌<◌, ◌≤◌, List, [], ◌∷◌, Option, Some, None, Result, Ok, Err, length, take, drop, refl, ◌∙◌, sym, ap, subst, arith}
+use Rattle.std.specs.declared.alloc.AllocError.{AllocError}
+use Rattle.std.proofs.Common.{IfOk, MatchOption, ◌≡◌, ℕ, ◌+◌, ◌-◌, ◌<◌, ◌≤◌, List, [], ◌∷◌, Option, Some, None, Result, Ok, Err, length, take, drop, refl, ◌∙◌, sym, ap, subst, arith}
 use Rattle.std.specs.Str.{chars, IsUtf8, IsCharBoundary}
 use Rattle.css_text.specs.declared.lexer.Piece.{Piece as LexPiece}
 use Rattle.css_text.specs.declared.lexer.LexFault.{LexFault}
 use Rattle.css_text.specs.Pieces.{Unclosed, string, comment, url, Token, cut}
 use Rattle.css_text.specs.PieceKinds.{IsOfKind, AreOfKinds}
-use Rattle.css_text.specs.Ahead.{Ahead, fault_at, next_of, rest_of, byte_len, begins_bom, bom_len, without_bom, pieces}
+use Rattle.css_text.specs.Ahead.{Ahead, ahead, behind, fault_at, next_of, rest_of, byte_len, begins_bom, bom_len, without_bom, pieces}
 use Rattle.css_text.proofs.PieceKinds.{cut_kinds}
 use Rattle.css_text.proofs.Slices.{IsSlice, from_boundary, slice_chars, byte_len_some}
 use Rattle.css_text.proofs.Reader.{IsAt, Next, at_next, at_end, at_fault}
+use Rattle.css_text.proofs.Start.{start_view}
 use Rattle.css_text.proofs.ReaderStart.{at_start}
 use Rattle.css_tree.proofs.Reader.{outcome}
 use Rattle.css_tree.specs.Pieces.{Piece, shape, shape_of, located, pieces_of, end_of, last_end}
@@ -24,19 +26,8 @@ use Rattle.css_parse.specs.Standing.{sheet, Stand}
 use Rattle.css_parse.specs.Model.{model, IsUpTo, IsNext, IsSmall, Advances, IsStop, IsEnd}
 use Rattle.css_parse.proofs.Standing.{part-empty}
 use Rattle.css_parse.specs.Reading.{whole, IsRead}
+use Rattle.css_parse.specs.Going.{Reading, Going}
 use Rattle.css_parse.specs.Lexical.{found_of}
-
--- The reader is at the byte `at`; the pieces that are left come from this state to what the whole text comes to.
-pub record Reading (s bs : List ℕ) (lexer : Ahead) (m : Machine) (at : ℕ) : Type 0 where
-  pub tokens : List Token
-  pub rest : List ℕ
-  pub fault : Option Unclosed
-  pub is_at : IsAt bs at tokens rest fault lexer
-  pub ready : IsReady m
-  pub small : IsSmall m at
-  pub kinds : AreOfKinds tokens
-  pub formed : AllFormed (located at tokens)
-  pub same : whole s ≡ answer m (located at tokens) (lexical_at (last_end at (located at tokens)) fault)
 
 pub at_begin : (bs : List ℕ) (lexer : Ahead) (m : Machine) → IsUtf8 bs → lexer ≡ pieces (chars bs) → m ≡ start (begins_bom (chars bs)) (byte_len (chars bs)) → Reading (chars bs) bs lexer m (bom_len (chars bs))
 unfolding pieces_of lexical_fault
@@ -72,7 +63,7 @@ pub record Taken (s bs : List ℕ) (lexer : Ahead) (m : Machine) (at : ℕ) (p :
   pub small : IsSmall m (seen bs p).at
   pub longer : (seen bs p).at < end_of (seen bs p)
   pub within : end_of (seen bs p) ≤ length bs
-  pub fewer : length (rest_of lexer.pieces) < length lexer.pieces
+  pub ends : end_of (seen bs p) ≡ p.span.end
   pub on : (n : Machine) → IsReady n → IsSmall n (end_of (seen bs p)) → Advances m (seen bs p) n → Reading s bs (record { pieces = rest_of lexer.pieces; fault = lexer.fault }) n (end_of (seen bs p))
   pub stop : (f : Fault) → ((ps : List Piece) (lex : Option Fault) → answer m (seen bs p ∷ ps) lex ≡ faulty f) → whole s ≡ faulty f
 
@@ -103,7 +94,7 @@ taken_by s bs lexer m at p h u x =
       small = subst (λ z. IsSmall m z) (sym begin) h.small;
       longer = subst (λ z. z.at < end_of z) (sym is) long;
       within = subst (λ z. z ≤ length bs) (end ∙ sym (ap end_of is)) x.slice.fits;
-      fewer = x.fewer;
+      ends = sym (end ∙ sym (ap end_of is));
       on = λ n r l a. subst (Reading s bs (record { pieces = rest_of lexer.pieces; fault = lexer.fault }) n) (end ∙ sym (ap end_of is)) (record {
         tokens = x.others;
         rest = h.rest;
@@ -172,21 +163,14 @@ pub read_stop : (x : Stop Fault) (s : List ℕ) (m : Machine) (p : Piece) → ((
 read_stop (StopOf.Fault f) s m p e h = e f h
 read_stop (StopOf.Memory x) s m p e h = tt
 
--- The loop: the parser's state is at the reader's byte, in the sheet and in what it comes to.
-pub record Going (s bs : List ℕ) (lexer : Ahead) (p : Parser) : Type 0 where
-  pub at : ℕ
-  pub reading : Reading s bs lexer (model p) at
-  pub up_to : IsUpTo bs p at
-
 bom-boundary : (bs : List ℕ) → IsUtf8 bs → IsCharBoundary bs (bom_len (chars bs))
 bom-boundary bs u = let b = at_start bs (pieces (chars bs)) u refl in from_boundary bs (bom_len (chars bs)) _ b.at.here
 
 -- before the first piece
-pub going : (bs : List ℕ) (lexer : Ahead) (p : Parser) → IsUtf8 bs → length bs ≤ 67108864 → lexer ≡ pieces (chars bs) → model p ≡ start (begins_bom (chars bs)) (byte_len (chars bs))
-    → sheet p.texts ≡ bs → p.gap.end ≡ bom_len (chars bs) → p.gap.start ≡ p.gap.end → p.run ≡ [] → Going (chars bs) bs lexer p
-going bs lexer p u l e m t g h r = record {
-  at = bom_len (chars bs);
-  reading = at_begin bs lexer (model p) u e m;
+pub going : (bs : List ℕ) (p : Parser) → IsUtf8 bs → length bs ≤ 67108864 → model p ≡ start (begins_bom (chars bs)) (byte_len (chars bs))
+    → sheet p.texts ≡ bs → p.gap.end ≡ bom_len (chars bs) → p.gap.start ≡ p.gap.end → p.run ≡ [] → Going (chars bs) bs (bom_len (chars bs)) p
+going bs p u l m t g h r = record {
+  reading = at_begin bs (ahead (bom_len (chars bs)) (drop (bom_len (chars bs)) bs)) (model p) u (start_view bs u) m;
   up_to = record {
     same = t;
     behind = record {
@@ -199,8 +183,20 @@ going bs lexer p u l e m t g h r = record {
 }
 
 -- the piece that comes next stands behind what the parser keeps
-pub next-piece : (s bs : List ℕ) (lexer : Ahead) (p : Parser) (q : LexPiece) (g : Going s bs lexer p) → Taken s bs lexer (model p) g.at q → IsNext (sheet p.texts) p (seen bs q)
-next-piece s bs lexer p q g t =
+pub next-piece : (s bs : List ℕ) (at : ℕ) (p : Parser) (q : LexPiece) (g : Going s bs at p) → Taken s bs (ahead at (drop at bs)) (model p) at q → IsNext (sheet p.texts) p (seen bs q)
+next-piece s bs at p q g t =
     let at : IsUpTo bs p (seen bs q).at = subst (IsUpTo bs p) t.begins g.up_to in
     let next : IsNext bs p (seen bs q) = record { up_to = at; slice = t.slice } in
     subst (λ z. IsNext z p (seen bs q)) (sym at.same) next
+
+-- behind it
+pub going-on : (s bs : List ℕ) (at : ℕ) (p n : Parser) (q : LexPiece) → Taken s bs (ahead at (drop at bs)) (model p) at q → ahead q.span.end (drop q.span.end bs) ≡ behind (ahead at (drop at bs))
+    → IsReady (model n) → IsSmall (model n) (end_of (seen bs q)) → Advances (model p) (seen bs q) (model n) → IsUpTo bs n (end_of (seen bs q)) → Going s bs q.span.end n
+going-on s bs at p n q t e r l a u = record {
+  reading = subst (λ z. Reading s bs z (model n) q.span.end) (sym e) (subst (Reading s bs (behind (ahead at (drop at bs))) (model n)) t.ends (t.on (model n) r l a));
+  up_to = subst (IsUpTo bs n) t.ends u;
+}
+
+-- where no plain statement was taken, the parser is as it was
+pub still : (bs : List ℕ) (at : ℕ) (p n : Parser) (r : Result (Option ℕ) AllocError) → r ≡ Ok None → IfOk r (λ r. MatchOption r (n ≡ p) (λ next. (at < next) × (next ≤ length bs) × Going (chars bs) bs next n)) → n ≡ p
+still bs at p n r e h = subst (λ r. IfOk r (λ r. MatchOption r (n ≡ p) (λ next. (at < next) × (next ≤ length bs) × Going (chars bs) bs next n))) e h

@@ -1,5 +1,8 @@
 -- Where the parser stands in the sheet.
-use Rattle.std.proofs.Common.{◌≡◌, ℕ, List, [], ◌∷◌, ◌++◌, Bool, ap, sym, ◌∙◌, subst, refl}
+use Rattle.std.proofs.Common.{◌≡◌, ℕ, List, [], ◌∷◌, ◌++◌, Bool, ap, sym, ◌∙◌, subst, refl, reverse}
+use Rattle.std.specs.Str.{IsCharBoundary}
+use Rattle.std.proofs.lemmas.List.{reverse-append}
+use Rattle.css_text.specs.Shared.{IsPart}
 use Rattle.node_rows.specs.declared.node_list.NodeAt.{NodeAt}
 use Rattle.css_tree.specs.Pieces.{Piece, end_of, last_end}
 use Rattle.css_parse.specs.declared.gap.Gap.{Gap}
@@ -7,7 +10,7 @@ use Rattle.css_parse.specs.declared.parser.Parser.{Parser}
 use Rattle.css_parse.specs.declared.turn.Frame.{Frame}
 use Rattle.css_parse.specs.Machine.{Machine}
 use Rattle.css_parse.specs.Model.{IsUpTo, IsNext}
-use Rattle.css_parse.specs.Standing.{sheet, gap_text, IsBehind}
+use Rattle.css_parse.specs.Standing.{sheet, gap_text, IsBehind, Stand}
 use Rattle.css_parse.proofs.Standing.{gap, gap-more, gap-empty, behind-more, part-empty, stand-snoc, end-snoc}
 
 -- the gap, the statement in progress and the next piece
@@ -57,3 +60,19 @@ no-gap bs at g k = ap (gap_text bs) k ∙ gap-empty bs at
 pub machine-is : (ns ms : List NodeAt) (i j : ℕ) (a b : Bool) (fs gs : List Frame) (t u : List ℕ) (r q w v : List Piece) → ns ≡ ms → i ≡ j → a ≡ b → fs ≡ gs → t ≡ u → r ≡ q → w ≡ v
     → ◌≡◌ {A = Machine} (record { nodes = ns; number = i; semicolon = a; frames = fs; gap = t; run = r; awaited = w }) (record { nodes = ms; number = j; semicolon = b; frames = gs; gap = u; run = q; awaited = v })
 machine-is ns ms i j a b fs gs t u r q w v e1 e2 e3 e4 e5 e6 e7 = rw (e1, e2, e3, e4, e5, e6, e7) refl
+
+-- at a boundary with neither gap nor statement
+pub up-to-here : (bs : List ℕ) (p : Parser) (from : ℕ) (s : Parser) (at : ℕ) → IsUpTo bs p from → IsCharBoundary bs at → s.texts ≡ p.texts → s.gap ≡ gap at at → s.run ≡ [] → IsUpTo bs s at
+up-to-here bs p from s at h b t g r = record {
+  same = ap sheet t ∙ h.same;
+  behind = record {
+    is_sheet = h.behind.is_sheet;
+    gap = subst (λ z. IsPart bs z.start z.end) (sym g) (part-empty bs at b);
+    stand = subst (Stand bs s.gap.end) (sym r) tt;
+  };
+  end = ap (last_end s.gap.end) r ∙ ap (λ z. z.end) g;
+}
+
+-- one more container around
+pub framed : (fs gs : List Frame) (number : ℕ) (o q : Piece) → gs ≡ fs ++ record { number = number; opening = o } ∷ [] → o ≡ q → reverse gs ≡ record { number = number; opening = q } ∷ reverse fs
+framed fs gs number o q e k = ap reverse e ∙ (reverse-append fs (record { number = number; opening = o } ∷ []) ∙ ap (λ z. record { number = number; opening = z } ∷ reverse fs) k)

@@ -90,15 +90,15 @@ pub end-snoc : (at : ℕ) (ps : List Piece) (q : Piece) → last_end at (ps ++ q
 end-snoc at [] q = refl
 end-snoc at (p ∷ ps) q = end-snoc (end_of p) ps q
 
-stand-back : (bs : List ℕ) (at : ℕ) (xs ys : List Piece) → Stand bs at (xs ++ ys) → Stand bs (last_end at xs) ys
+pub stand-back : (bs : List ℕ) (at : ℕ) (xs ys : List Piece) → Stand bs at (xs ++ ys) → Stand bs (last_end at xs) ys
 stand-back bs at [] ys h = h
 stand-back bs at (x ∷ xs) ys h = stand-back bs (end_of x) xs ys h.2
 
-stand-front : (bs : List ℕ) (at : ℕ) (xs ys : List Piece) → Stand bs at (xs ++ ys) → Stand bs at xs
+pub stand-front : (bs : List ℕ) (at : ℕ) (xs ys : List Piece) → Stand bs at (xs ++ ys) → Stand bs at xs
 stand-front bs at [] ys h = tt
 stand-front bs at (x ∷ xs) ys h = (h.0, h.1, stand-front bs (end_of x) xs ys h.2)
 
-end-both : (at : ℕ) (xs ys : List Piece) → last_end at (xs ++ ys) ≡ last_end (last_end at xs) ys
+pub end-both : (at : ℕ) (xs ys : List Piece) → last_end at (xs ++ ys) ≡ last_end (last_end at xs) ys
 end-both at [] ys = refl
 end-both at (x ∷ xs) ys = end-both (end_of x) xs ys
 

@@ -5,8 +5,12 @@ pub mod Marks
 pub mod Gaps
 pub mod Standing
 pub mod Values
+pub mod Plain
+pub mod PlainScan
 pub mod Machine
+pub mod PlainSteps
 pub mod Model
 pub mod Lexical
 pub mod Reading
+pub mod Going
 pub mod Answer

@@ -7,10 +7,15 @@ mod gap;
 mod mark;
 mod nodes;
 #[cfg(test)]
+mod odd_marks;
+#[cfg(test)]
 mod odd_texts;
 pub mod parse;
 mod parser;
 mod piece;
+mod plain;
+mod plain_nodes;
+mod plain_steps;
 mod read;
 mod run;
 mod spaces;

@@ -250,7 +250,7 @@ impl<'t> Parser<'t> {
     {
         let block = self.block()?;
         self.nodes.set_block(self.number, block);
-        self.nodes.set_end(self.number, piece.end() as usize);
+        self.nodes.set_end(self.number, piece.end());
         Ok(())
     }
 

@@ -9,12 +9,13 @@ ghost use Rattle.css_parse.specs.Answer.{IsNodes};
 ghost use Rattle.css_parse.specs.Reading.{IsRead};
 ghost use Rattle.css_parse.specs.Lexical.{found_of};
 ghost use Rattle.css_parse.specs.Standing.{sheet};
+ghost use Rattle.css_parse.specs.Going.{Going, Reads};
 
 use crate::found::Found;
 use crate::parser::Parser;
 use crate::piece::Piece;
 use crate::texts::Texts;
-use css_text::lexer::{self, LexFault, Lexer};
+use css_text::lexer::{self, LexFault, bom_len, next_at};
 use css_text::stop::Stop;
 use css_text::text::Text;
 use css_tree::fault::SyntaxKind;
@@ -46,6 +47,33 @@ fn lexical(fault: LexFault) -> Found
     }
 }
 
+/// Reads the plain statement at the byte, or else one piece, and answers the byte behind it; none at the text's end. After an error
+/// the parser may not be used again.
+#[inline(always)]
+fn read_at<'t>(
+    parser: &mut Parser<'t>,
+    src: &'t str,
+    at: usize,
+) -> Result<Option<usize>, Stop<Found>>
+    requires going { Going (chars src.now) src.now at parser.old }
+    requires short { length src.now ≤ 67108864 }
+    ensures { Reads result src.now at parser.old parser.new }
+{
+    match parser.take_plain(src, at) {
+        Ok(None) => {}
+        Ok(Some(next)) => return Ok(Some(next)),
+        Err(e) => return Err(Stop::Memory(e)),
+    }
+    match next_at(src.as_bytes(), at) {
+        Ok(Some(piece)) => match parser.step(piece_in(src, piece)) {
+            Ok(()) => Ok(Some(piece.span.end)),
+            Err(stop) => Err(stop),
+        },
+        Ok(None) => Ok(None),
+        Err(fault) => Err(Stop::Fault(lexical(fault))),
+    }
+}
+
 /// The nodes of a text, which begins with a byte order mark or doesn't, or its first fault.
 fn read_pieces(texts: Texts, src: &str, bom: bool) -> Result<NodeList, Stop<Found>>
     requires short { length src.now ≤ 67108864 }
@@ -57,15 +85,12 @@ fn read_pieces(texts: Texts, src: &str, bom: bool) -> Result<NodeList, Stop<Foun
         Ok(parser) => parser,
         Err(e) => return Err(Stop::Memory(e)),
     };
-    let mut lexer = Lexer::over(src);
-    'pieces: loop {
-        match lexer.next() {
-            Ok(Some(piece)) => match parser.step(piece_in(src, piece)) {
-                Ok(()) => {}
-                Err(stop) => return Err(stop),
-            },
+    let mut at = bom_len(src);
+    'statements: loop {
+        match read_at(&mut parser, src, at) {
+            Ok(Some(next)) => at = next,
             Ok(None) => return parser.finish(),
-            Err(fault) => return Err(Stop::Fault(lexical(fault))),
+            Err(stop) => return Err(stop),
         }
     }
 }

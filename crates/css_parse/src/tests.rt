@@ -11,6 +11,7 @@ use node_rows::node_list::NodeList;
 use std::alloc::{AllocError, Global};
 use std::test::Fail;
 
+/// The text with these characters.
 pub fn text_of(alloc: Global, src: &str) -> Result<Text, Stop<TextFault>>
     requires { length src.now ≤ 10000 }
 {
@@ -113,7 +114,7 @@ fn push_text(out: &mut String, text: &NodeText) -> Result<(), AllocError> {
     }
 }
 
-// Each node: its parent, its span, its fields and raws.
+/// Each node: its parent, its span, its fields and raws.
 pub fn shown(alloc: Global, nodes: NodeList) -> Result<String, AllocError> {
     let mut out = String::new(alloc);
     let rows = nodes.into_rows();
@@ -283,7 +284,7 @@ fn faults(rt: HostRuntime) -> Result<(), Fail> {
         AtRuleWithoutName, UnclosedBlock, UnclosedBracket, UnclosedComment, UnclosedString,
         UnclosedUrl, UnexpectedClose, UnknownWord,
     };
-    let table: [(&str, SyntaxKind, u32, u32, u32); 28] = [
+    let table: [(&str, SyntaxKind, u32, u32, u32); 29] = [
         ("}", UnexpectedClose, 0, 1, 1),
         ("a{", UnclosedBlock, 1, 1, 2),
         ("a{b", UnknownWord, 2, 1, 3),
@@ -292,6 +293,7 @@ fn faults(rt: HostRuntime) -> Result<(), Fail> {
         ("a{b:(c}", UnclosedBracket, 4, 1, 5),
         ("a{b:([c}", UnclosedBracket, 4, 1, 5),
         ("a{(}", UnclosedBracket, 2, 1, 3),
+        ("a:not(b{}", UnclosedBracket, 5, 1, 6),
         ("--x:{", UnclosedBracket, 4, 1, 5),
         ("/*", UnclosedComment, 0, 1, 1),
         ("a:b /*", UnclosedComment, 4, 1, 5),

@@ -69,6 +69,15 @@ abbrev pub rest_of : List Piece → List Piece
 rest_of [] = []
 rest_of (p ∷ ps) = ps
 
+-- what is ahead behind the next piece
+abbrev pub behind : Ahead → Ahead
+behind a = record { pieces = rest_of a.pieces; fault = a.fault }
+
+-- where the piece ends, or else that place
+abbrev pub end_or : ℕ → Option Piece → ℕ
+end_or at None = at
+end_or at (Some p) = p.span.end
+
 -- what so many calls answer a reader, one after another
 abbrev pub answers : ℕ → Ahead → List (Result (Option Piece) LexFault)
 answers zero a = []

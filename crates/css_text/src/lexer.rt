@@ -1,7 +1,7 @@
 // The pieces of a text, one per call.
-ghost use Rattle.std.specs.Prelude.{◌≡◌, ◌+◌, ◌≤◌, ◌<◌, drop, length, IfOk};
+ghost use Rattle.std.specs.Prelude.{◌≡◌, ◌+◌, ◌≤◌, ◌<◌, drop, length, IfOk, IfSome};
 ghost use Rattle.css_text.specs.Found.{first_at};
-ghost use Rattle.css_text.specs.Ahead.{next_of, rest_of, pieces, bom_len as bom_len_of};
+ghost use Rattle.css_text.specs.Ahead.{ahead, next_of, rest_of, behind, end_or, pieces, bom_len as bom_len_of};
 ghost use Rattle.std.specs.Str.{chars};
 
 use crate::scan;
@@ -99,6 +99,30 @@ pub fn bom_len(s: &str) -> usize
     }
 }
 
+/// The next piece of a text at one of its bytes, counted from its start; `None` behind the last. A caller that goes on behind the piece's
+/// end reads all pieces, as a [`Lexer`] does, and one that knows what stands ahead may go on behind it.
+///
+/// # Errors
+///
+/// A `LexFault` exactly where the first form that fits has no end.
+#[tactic(auto, using(crate::proofs::Ahead::ahead_steps))]
+#[inline(always)]
+pub fn next_at(bytes: &[u8], at: usize) -> Result<Option<Piece>, LexFault>
+    requires { at ≤ length bytes.now }
+    ensures answer { result ≡ next_of (ahead at (drop at bytes.now)).pieces (ahead at (drop at bytes.now)).fault }
+    ensures within { IfOk result (λ p. IfSome p (λ p. p.span.end ≤ length bytes.now)) }
+    ensures rest { IfOk result (λ p. ahead (end_or at p) (drop (end_or at p) bytes.now) ≡ behind (ahead at (drop at bytes.now))) }
+{
+    if at >= bytes.len() {
+        return Ok(None);
+    }
+    let (kind, end) = piece_at(bytes, at)?;
+    Ok(Some(Piece {
+        kind,
+        span: Span { start: at, end },
+    }))
+}
+
 /// Reads a text piece by piece, in one pass over its bytes. No call takes memory.
 ///
 /// What a clause sees of it is what is still to come: the pieces, and the fault after them if there is one.
@@ -156,18 +180,12 @@ impl<'t> Lexer<'t> {
         if let Some(fault) = self.fault {
             return Err(fault);
         }
-        if self.at >= self.bytes.len() {
-            return Ok(None);
-        }
-        let start = self.at;
-        match piece_at(self.bytes, start) {
-            Ok((kind, end)) => {
-                self.at = end;
-                Ok(Some(Piece {
-                    kind,
-                    span: Span { start, end },
-                }))
+        match next_at(self.bytes, self.at) {
+            Ok(Some(piece)) => {
+                self.at = piece.span.end;
+                Ok(Some(piece))
             }
+            Ok(None) => Ok(None),
             Err(fault) => {
                 self.fault = Some(fault);
                 Err(fault)

@@ -155,12 +155,12 @@ mod tests {
                 Err(Stop::Memory(error)) => return Err(error.into()),
             }
         }
-        let fault = TextFault::NotUtf8 { at: 2 };
-        assert_eq!(rt; format!(in rt.alloc(); "{fault}")?.as_str(), "NotUtf8 at 2");
+        let fault = TextFault::NotUtf8 { at: 1 };
+        assert_eq!(rt; format!(in rt.alloc(); "{fault}")?.as_str(), "NotUtf8 at 1");
         let stop: Stop<TextFault> = Stop::Fault(fault);
         assert_eq!(rt;
             format!(in rt.alloc(); "{stop:?}")?.as_str(),
-            "Fault(NotUtf8 { at: 2 })"
+            "Fault(NotUtf8 { at: 1 })"
         );
         Ok(())
     }

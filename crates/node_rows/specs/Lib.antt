@@ -14,3 +14,4 @@ pub mod Growth
 pub mod Fingers
 pub mod Ends
 pub mod Entries
+pub mod Packed

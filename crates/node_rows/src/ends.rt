@@ -1,10 +1,9 @@
 // The end of a container, which is known after what stands in it.
 ghost use Rattle.std.specs.Prelude.{◌≡◌, ◌<◌, length};
 ghost use Rattle.node_rows.specs.Nodes.{text_of, with_text};
-ghost use Rattle.node_rows.specs.Ends.{with_block, some_ended, with_end};
+ghost use Rattle.node_rows.specs.Ends.{with_block, with_end};
 
 use crate::rows::Rows;
-use css_text::lexer::Span;
 use css_tree::node::{Block, NodeText};
 
 fn set_block(text: &mut NodeText, block: Block)
@@ -19,18 +18,6 @@ fn set_block(text: &mut NodeText, block: Block)
     }
 }
 
-fn ended(span: Option<Span>, end: usize) -> Option<Span>
-    ensures { result ≡ some_ended end span }
-{
-    match span {
-        None => None,
-        Some(span) => Some(Span {
-            start: span.start,
-            end,
-        }),
-    }
-}
-
 impl Rows {
     // Writes the end of the container n.
     pub(crate) fn set_block(&mut self, n: u32, block: Block)
@@ -42,11 +29,11 @@ impl Rows {
     }
 
     // Lets the body of n end before the byte.
-    pub(crate) fn set_end(&mut self, n: u32, end: usize)
+    pub(crate) fn set_end(&mut self, n: u32, end: u32)
         requires { n < length self.old }
         ensures { self.new ≡ with_end self.old n end }
     {
         let row = &mut self.items[n as usize];
-        row.span = ended(row.span, end);
+        row.span.set_end(end);
     }
 }

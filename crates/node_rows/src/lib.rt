@@ -10,6 +10,7 @@ pub mod links;
 pub mod marks;
 pub mod node_list;
 pub mod order;
+mod packed;
 pub mod rows;
 #[cfg(test)]
 mod tests;

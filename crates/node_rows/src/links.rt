@@ -7,16 +7,11 @@ ghost use Rattle.node_rows.specs.Joins.{placed, with_after, with_before, joined_
 ghost use Rattle.node_rows.specs.Segments.{end_of, start_of};
 
 use crate::finger::{Finger, finger_with};
+use crate::packed::Link;
 use crate::rows::{Row, Rows};
 
 // The children of p on both sides of the place `at`, found onward from those on both sides of the place `from`.
-fn gap_onward(
-    rows: &Vec<Row>,
-    p: u32,
-    from: usize,
-    at: usize,
-    gap: (Option<u32>, Option<u32>),
-) -> (Option<u32>, Option<u32>)
+fn gap_onward(rows: &Vec<Row>, p: u32, from: usize, at: usize, gap: (Link, Link)) -> (Link, Link)
     requires sound { IsLinked rows.now.items }
     requires given { p < length rows.now.items }
     requires order { from ≤ at }
@@ -27,7 +22,7 @@ fn gap_onward(
 {
     let (mut before, mut after) = gap;
     for _i in from..at {
-        if let Some(child) = after {
+        if let Some(child) = after.get() {
             before = after;
             after = rows[child as usize].after;
         }
@@ -36,13 +31,7 @@ fn gap_onward(
 }
 
 // The same, found back from a place that isn't earlier.
-fn gap_back(
-    rows: &Vec<Row>,
-    p: u32,
-    from: usize,
-    at: usize,
-    gap: (Option<u32>, Option<u32>),
-) -> (Option<u32>, Option<u32>)
+fn gap_back(rows: &Vec<Row>, p: u32, from: usize, at: usize, gap: (Link, Link)) -> (Link, Link)
     requires sound { IsLinked rows.now.items }
     requires given { p < length rows.now.items }
     requires order { at ≤ from }
@@ -54,7 +43,7 @@ fn gap_back(
 {
     let (mut before, mut after) = gap;
     for _i in at..from {
-        if let Some(child) = before {
+        if let Some(child) = before.get() {
             after = before;
             before = rows[child as usize].before;
         }
@@ -63,7 +52,7 @@ fn gap_back(
 }
 
 // The same, found from the nearer end.
-fn gap_from_end(rows: &Vec<Row>, p: u32, at: usize) -> (Option<u32>, Option<u32>)
+fn gap_from_end(rows: &Vec<Row>, p: u32, at: usize) -> (Link, Link)
     requires sound { IsLinked rows.now.items }
     requires given { p < length rows.now.items }
     requires place { at ≤ length (listed rows.now.items (row_at rows.now.items p)) }
@@ -73,21 +62,21 @@ fn gap_from_end(rows: &Vec<Row>, p: u32, at: usize) -> (Option<u32>, Option<u32>
     let row = &rows[p as usize];
     let count = row.count as usize;
     if at <= count - at {
-        gap_onward(rows, p, 0, at, (None, row.first))
+        gap_onward(rows, p, 0, at, (Link::none(), row.first))
     } else {
-        gap_back(rows, p, count, at, (row.last, None))
+        gap_back(rows, p, count, at, (row.last, Link::none()))
     }
 }
 
 // The same, found from the child that the finger is at.
-fn gap_from_finger(rows: &Vec<Row>, p: u32, at: usize, finger: Finger) -> (Option<u32>, Option<u32>)
+fn gap_from_finger(rows: &Vec<Row>, p: u32, at: usize, finger: Finger) -> (Link, Link)
     requires sound { IsLinked rows.now.items }
     requires given { p < length rows.now.items }
     requires finger { slice_get (listed rows.now.items (row_at rows.now.items p)) finger.place ≡ Some finger.node }
     ensures before { result.0 ≡ end_of None (take at (listed rows.now.items (row_at rows.now.items p))) }
     ensures after { result.1 ≡ start_of (drop at (listed rows.now.items (row_at rows.now.items p))) None }
 {
-    let gap = (rows[finger.node as usize].before, Some(finger.node));
+    let gap = (rows[finger.node as usize].before, Link::some(finger.node));
     if finger.place <= at {
         gap_onward(rows, p, finger.place, at, gap)
     } else {
@@ -96,7 +85,7 @@ fn gap_from_finger(rows: &Vec<Row>, p: u32, at: usize, finger: Finger) -> (Optio
 }
 
 // The same, found from the nearer end, or from the finger where it is nearer.
-fn gap(rows: &Vec<Row>, p: u32, at: usize, finger: Option<Finger>) -> (Option<u32>, Option<u32>)
+fn gap(rows: &Vec<Row>, p: u32, at: usize, finger: Option<Finger>) -> (Link, Link)
     requires sound { IsLinked rows.now.items }
     requires given { p < length rows.now.items }
     requires place { at ≤ length (listed rows.now.items (row_at rows.now.items p)) }
@@ -114,23 +103,24 @@ fn gap(rows: &Vec<Row>, p: u32, at: usize, finger: Option<Finger>) -> (Option<u3
 }
 
 // n stands below p, between `before` and `after`.
-fn put(rows: &mut Vec<Row>, n: u32, p: u32, before: Option<u32>, after: Option<u32>)
-    requires { n < length rows.old.items }
+fn put(rows: &mut Vec<Row>, n: u32, p: u32, before: Link, after: Link)
+    requires node { n < length rows.old.items }
+    requires few { p < 4294967295 }
     ensures { rows.new.items ≡ placed rows.old.items n p before after }
 {
     let row = &mut rows[n as usize];
-    row.parent = Some(p);
+    row.parent = Link::some(p);
     row.before = before;
     row.after = after;
 }
 
 // What comes behind `before`, or first in p.
-fn set_after(rows: &mut Vec<Row>, before: Option<u32>, p: u32, after: Option<u32>)
+fn set_after(rows: &mut Vec<Row>, before: Link, p: u32, after: Link)
     requires given { p < length rows.old.items }
     requires within { IsWithin rows.old.items before }
     ensures { rows.new.items ≡ with_after rows.old.items before p after }
 {
-    match before {
+    match before.get() {
         None => {
             let row = &mut rows[p as usize];
             row.first = after;
@@ -143,12 +133,12 @@ fn set_after(rows: &mut Vec<Row>, before: Option<u32>, p: u32, after: Option<u32
 }
 
 // What comes before `after`, or last in p.
-fn set_before(rows: &mut Vec<Row>, after: Option<u32>, p: u32, before: Option<u32>)
+fn set_before(rows: &mut Vec<Row>, after: Link, p: u32, before: Link)
     requires given { p < length rows.old.items }
     requires within { IsWithin rows.old.items after }
     ensures { rows.new.items ≡ with_before rows.old.items after p before }
 {
-    match after {
+    match after.get() {
         None => {
             let row = &mut rows[p as usize];
             row.last = before;
@@ -161,17 +151,19 @@ fn set_before(rows: &mut Vec<Row>, after: Option<u32>, p: u32, before: Option<u3
 }
 
 // Puts n into p, between `before` and `after`.
-fn join(rows: &mut Vec<Row>, p: u32, n: u32, before: Option<u32>, after: Option<u32>)
+fn join(rows: &mut Vec<Row>, p: u32, n: u32, before: Link, after: Link)
     requires given { p < length rows.old.items }
     requires node { n < length rows.old.items }
     requires before_in { IsWithin rows.old.items before }
     requires after_in { IsWithin rows.old.items after }
     requires few { (row_at rows.old.items p).count < 67108865 }
+    requires total { length rows.old.items ≤ 67108865 }
     ensures { rows.new.items ≡ joined_in rows.old.items p n before after }
 {
     put(rows, n, p, before, after);
-    set_after(rows, before, p, Some(n));
-    set_before(rows, after, p, Some(n));
+    let link = Link::some(n);
+    set_after(rows, before, p, link);
+    set_before(rows, after, p, link);
     let row = &mut rows[p as usize];
     row.count += 1;
 }
@@ -182,13 +174,13 @@ fn free(rows: &mut Vec<Row>, n: u32)
     ensures { rows.new.items ≡ freed rows.old.items n }
 {
     let row = &mut rows[n as usize];
-    row.parent = None;
-    row.before = None;
-    row.after = None;
+    row.parent = Link::none();
+    row.before = Link::none();
+    row.after = Link::none();
 }
 
 // Takes n out of p, where it stands between `before` and `after`.
-fn cut(rows: &mut Vec<Row>, p: u32, n: u32, before: Option<u32>, after: Option<u32>)
+fn cut(rows: &mut Vec<Row>, p: u32, n: u32, before: Link, after: Link)
     requires given { p < length rows.old.items }
     requires node { n < length rows.old.items }
     requires before_in { IsWithin rows.old.items before }
@@ -213,7 +205,7 @@ impl Rows {
         if at >= self.items[n as usize].count as usize {
             return None;
         }
-        gap(&self.items, n, at, self.finger).1
+        gap(&self.items, n, at, self.finger).1.get()
     }
 
     /// The place of the child n of `parent`: how many children stand before it. It walks from n on both sides at once, up
@@ -249,7 +241,11 @@ impl Rows {
             node,
             place: at,
         };
-        self.finger = finger_with(self.finger, child, before.is_none() || after.is_none());
+        self.finger = finger_with(
+            self.finger,
+            child,
+            before.get().is_none() || after.get().is_none(),
+        );
     }
 
     /// Puts the loose node behind the last child of `parent`.
@@ -268,7 +264,7 @@ impl Rows {
             node,
             place: row.count as usize,
         };
-        join(&mut self.items, parent, node, last, None);
+        join(&mut self.items, parent, node, last, Link::none());
         self.finger = finger_with(self.finger, child, true);
     }
 

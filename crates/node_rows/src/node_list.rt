@@ -39,7 +39,7 @@ impl Model for NodeList {
 }
 
 impl NodeList {
-    /// The root alone. The only error is want of memory.
+    /// The root alone. The only error is want of memory, as which a span counts whose start or end is above 4,294,967,294.
     pub fn new(alloc: Global, text: NodeText, span: Span) -> Result<NodeList, AllocError>
         ensures { IfOk result (λ list. list ≡ record { parent = 0; text = text; span = span } ∷ []) }
     {
@@ -59,7 +59,8 @@ impl NodeList {
         self.rows.len()
     }
 
-    /// One more node, which stands below an earlier one. An error is want of memory, and leaves the list as it was.
+    /// One more node, which stands below an earlier one. An error is want of memory, and leaves the list as it was. A span whose
+    /// start or end is above 4,294,967,294 counts as want of memory.
     #[inline(always)]
     pub fn push(&mut self, node: NodeAt) -> Result<(), AllocError>
         requires room { length self.old < 67108865 }
@@ -79,7 +80,7 @@ impl NodeList {
     }
 
     /// Lets the body of n end before the byte, counted from the start of the source.
-    pub fn set_end(&mut self, n: u32, end: usize)
+    pub fn set_end(&mut self, n: u32, end: u32)
         requires { n < length self.old }
         ensures { self.new ≡ with_entry_end self.old n end }
     {

@@ -4,9 +4,11 @@ ghost use Rattle.node_rows.specs.Nodes.{Node, new_node, text_of, span_of, parent
 ghost use Rattle.node_rows.specs.Sound.{IsSound};
 ghost use Rattle.node_rows.specs.NodeList.{nodes_of, is_document_order, parents_in};
 ghost use Rattle.node_rows.specs.Appended.{appended, IsAppendable};
+ghost use Rattle.node_rows.specs.Growth.{row_of};
 
 use crate::finger::Finger;
 use crate::node_list::NodeAt;
+use crate::packed::{Link, PackedSpan};
 use css_text::lexer::Span;
 use css_tree::node::NodeText;
 use std::alloc::{AllocError, Global};
@@ -17,14 +19,34 @@ use std::marker::Model;
 #[derive(Drop)]
 pub struct Row {
     pub(crate) text: NodeText,
-    pub(crate) span: Option<Span>,
-    pub(crate) parent: Option<u32>,
-    pub(crate) first: Option<u32>,
-    pub(crate) last: Option<u32>,
-    pub(crate) before: Option<u32>,
-    pub(crate) after: Option<u32>,
+    pub(crate) span: PackedSpan,
+    pub(crate) parent: Link,
+    pub(crate) first: Link,
+    pub(crate) last: Link,
+    pub(crate) before: Link,
+    pub(crate) after: Link,
     pub(crate) count: u32,
     pub(crate) dirty: bool,
+}
+
+const _: () = prove!(size_of::<Row>() == 192);
+
+// The row of a new node, which has no links.
+#[inline(always)]
+pub(crate) fn loose_row(text: NodeText, span: PackedSpan) -> Row
+    ensures { result ≡ row_of (record { text = text; span = span }) }
+{
+    Row {
+        text,
+        span,
+        parent: Link::none(),
+        first: Link::none(),
+        last: Link::none(),
+        before: Link::none(),
+        after: Link::none(),
+        count: 0,
+        dirty: true,
+    }
 }
 
 /// The nodes of a forest by number. A clause sees them as a list, each node with the list of its children.
@@ -88,7 +110,7 @@ impl Rows {
         requires { n < length self.now }
         ensures { result ≡ span_of self.now n }
     {
-        self.items[n as usize].span
+        self.items[n as usize].span.get()
     }
 
     /// The node's parent; none for the root and for a loose node.
@@ -96,7 +118,7 @@ impl Rows {
         requires { n < length self.now }
         ensures { result ≡ parent_of self.now n }
     {
-        self.items[n as usize].parent
+        self.items[n as usize].parent.get()
     }
 
     /// Whether the node is marked dirty.
@@ -120,7 +142,7 @@ impl Rows {
         requires { n < length self.now }
         ensures { result ≡ slice_get (children_of self.now n) 0 }
     {
-        self.items[n as usize].first
+        self.items[n as usize].first.get()
     }
 
     /// The sibling behind the node, in constant time.
@@ -129,9 +151,9 @@ impl Rows {
         ensures { result ≡ next_sibling_of self.now n }
     {
         let row = &self.items[n as usize];
-        match row.parent {
+        match row.parent.get() {
             None => None,
-            Some(_) => row.after,
+            Some(_) => row.after.get(),
         }
     }
 
@@ -141,35 +163,27 @@ impl Rows {
         ensures { result ≡ previous_sibling_of self.now n }
     {
         let row = &self.items[n as usize];
-        match row.parent {
+        match row.parent.get() {
             None => None,
-            Some(_) => row.before,
+            Some(_) => row.before.get(),
         }
     }
 
-    /// One more node, loose and dirty, and its number. An error is want of memory, and leaves the rows as they were.
+    /// One more node, loose and dirty, and its number. An error is want of memory, and leaves the rows as they were. A span whose
+    /// start or end is above 4,294,967,294 counts as want of memory.
     #[inline(always)]
     pub fn add(&mut self, text: NodeText, span: Option<Span>) -> Result<u32, AllocError>
         requires { length self.old < 67108865 }
         ensures { MatchResult result (λ n. (n ≡ length self.old) × (self.new ≡ self.old ++ new_node text span ∷ [])) (λ _. self.new ≡ self.old) }
     {
+        let span = PackedSpan::new(span)?;
         let number = self.items.len() as u32;
-        self.items.push(Row {
-            text,
-            span,
-            parent: None,
-            first: None,
-            last: None,
-            before: None,
-            after: None,
-            count: 0,
-            dirty: true,
-        })?;
+        self.items.push(loose_row(text, span))?;
         Ok(number)
     }
 
     // One more node as the last child of its parent; the first node is the root.
-    // An error is want of memory, and leaves the rows as they were.
+    // An error is want of memory, as which a span counts that `add` can't take, and leaves the rows as they were.
     #[inline(always)]
     pub(crate) fn append(&mut self, node: NodeAt) -> Result<(), AllocError>
         requires { IsAppendable self.old node }
@@ -185,7 +199,8 @@ impl Rows {
         Ok(())
     }
 
-    /// The nodes of a list in document order. The only error is want of memory.
+    /// The nodes of a list in document order. The only error is want of memory, as which a span counts whose start or end is
+    /// above 4,294,967,294.
     pub fn from_nodes(alloc: Global, nodes: Vec<NodeAt>) -> Result<Rows, AllocError>
         requires few { length nodes.items ≤ 67108865 }
         requires order { is_document_order (parents_in nodes.items) ≡ true }

@@ -283,3 +283,23 @@ fn reads_a_list(rt: HostRuntime) -> Result<(), Fail> {
     }
     Ok(())
 }
+
+// The span of a new node that is given it.
+fn span_kept(alloc: Global, span: Span) -> Result<Option<Span>, AllocError> {
+    let mut rows = Rows::with_capacity(alloc, 1)?;
+    let node = rows.add(rule(alloc, "a")?, Some(span))?;
+    Ok(rows.span(node))
+}
+
+#[test]
+fn keeps_spans(rt: HostRuntime) -> Result<(), Fail> {
+    for (start, end) in [(0, 0), (2, 1), (4_294_967_294, 4_294_967_294)] {
+        let span = Span { start, end };
+        assert_eq!(rt; span_kept(rt.alloc(), span)?, Some(span));
+    }
+    for (start, end) in [(4_294_967_295, 0), (0, 4_294_967_295)] {
+        let span = Span { start, end };
+        assert_eq!(rt; span_kept(rt.alloc(), span).is_err(), true);
+    }
+    Ok(())
+}

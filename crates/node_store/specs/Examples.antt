@@ -96,7 +96,8 @@ Touched = (map (touches nodes (Set 1 F.Selector (codes "x"))) (0 ∷ 1 ∷ 2 ∷
     × (map (touches nodes (Remove 1)) (0 ∷ 1 ∷ 2 ∷ 3 ∷ []) ≡ true ∷ false ∷ false ∷ false ∷ [])
     × (map (touches taken (Insert 1 3 0)) (0 ∷ 1 ∷ 2 ∷ 3 ∷ []) ≡ false ∷ true ∷ true ∷ true ∷ [])
 
--- the marks after an edit: a node of which a field is set, and its ancestors; a raw makes none
+-- The marks after an edit: a node of which a field is set is dirty, and its ancestors; a raw makes none; a removal marks the container and its
+-- ancestors; an entry cleans its node.
 abbrev pub Marked : Type 0
 Marked = (map (λ x. x.dirty) (apply nodes (Set 2 F.Selector (codes "x"))) ≡ true ∷ true ∷ true ∷ false ∷ [])
     × (map (λ x. x.dirty) (apply nodes (SetRaw 2 R.Between (codes " "))) ≡ false ∷ false ∷ false ∷ false ∷ [])

@@ -12,6 +12,7 @@ ghost use Rattle.node_store.specs.Growth.{grow_all, news, IsPlan, owed, frame_li
 ghost use Rattle.node_store.specs.Answers.{IsCopyAnswer, size_with_copy};
 ghost use Rattle.std.specs.Vec.{vec_capacity, vec_len};
 
+use crate::boxed_text::BoxedText;
 use crate::copies::copy_node;
 use crate::fault::TreeFault;
 use crate::frame::Frame;
@@ -63,7 +64,7 @@ fn plan_node(
     let span = rows.span(node);
     let text = copy_node(alloc, rows.text(node))?;
     plan.nodes.push(NewNode { text, span })?;
-    let text = copy_node(alloc, rows.text(node))?;
+    let text = BoxedText::new(alloc, copy_node(alloc, rows.text(node))?)?;
     plan.edits.push(Edit::New {
         node: NodeId::new(number),
         text,

@@ -7,6 +7,7 @@ ghost use Rattle.node_store.specs.Forest.{Forest, IsSpanOf, unreserved};
 ghost use Rattle.node_store.specs.Edits.{is_allowed, apply, edited, edited_where};
 ghost use Rattle.node_store.specs.Passing.{seat_without};
 
+use crate::boxed_text::BoxedText;
 use crate::copies::copy_node;
 use crate::id::NodeId;
 use crate::item::{Edit, Item};
@@ -67,7 +68,7 @@ impl Work {
             (λ n. (n ≡ length self.old.nodes) × (unreserved self.new ≡ edited (unreserved self.old) (E.New (length self.old.nodes) text span)))
             (λ _. unreserved self.new ≡ unreserved self.old) }
     {
-        let copy = copy_node(self.alloc, &text)?;
+        let copy = BoxedText::new(self.alloc, copy_node(self.alloc, &text)?)?;
         self.log.reserve(1)?;
         let node = NodeId::new(self.rows.add(text, span)?);
         self.log.push_reserved(Item::Edit(Edit::New {

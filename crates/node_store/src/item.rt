@@ -1,8 +1,9 @@
 // What the log of a tree holds: the walk's items, and the edits.
+use crate::boxed_text::BoxedText;
 use crate::id::NodeId;
 use css_text::lexer::Span;
 use css_text::txt::Txt;
-use css_tree::node::{Field, NodeText, Raw};
+use css_tree::node::{Field, Raw};
 
 /// The events of PostCSS 8 at which a visitor is called.
 #[derive(Clone, Copy, PartialEq, Eq, Debug)]
@@ -41,9 +42,11 @@ pub enum Edit {
         raw: Raw,
         text: Txt,
     },
+    /// A node is made. Its text has a box of its own, since nearly all items of a log hold no node: so an item takes 48 bytes,
+    /// and would take 192 with the text inside it.
     New {
         node: NodeId,
-        text: NodeText,
+        text: BoxedText,
         span: Option<Span>,
     },
     Insert {
@@ -76,3 +79,5 @@ pub enum Item {
     Leave(NodeId),
     End,
 }
+
+const _: () = prove!(size_of::<Item>() == 48);

@@ -1,6 +1,7 @@
 // A style sheet's nodes by number: one tree, the loose trees, the text that they were read from, and the log.
 #![tactic(auto)]
 
+pub mod boxed_text;
 pub mod copies;
 pub mod copying;
 pub mod cursors;

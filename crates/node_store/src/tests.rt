@@ -5,6 +5,7 @@ use crate::fault::TreeFault;
 use crate::id::NodeId;
 use crate::item::{Edit, Item};
 use crate::laws::{copies_can, examples, fresh_tree};
+use crate::parts;
 use crate::trees::{
     at_rule, comment, declaration, empty_sheet, make, put, reserve, rule, set, shape, take,
 };
@@ -199,6 +200,21 @@ fn copies(rt: HostRuntime) -> Result<(), Fail> {
             (*node, *parent, *at),
             (id(8), id(6), 1)
         ),
+        _ => assert!(rt; false),
+    }
+    Ok(())
+}
+
+#[test]
+fn logs_a_new_node(rt: HostRuntime) -> Result<(), Fail> {
+    let mut work = empty_sheet(rt.alloc())?;
+    make(&mut work, comment(rt.alloc(), "k")?)?;
+    match work.log() {
+        [Item::Edit(Edit::New { node, text, span })] => {
+            assert_eq!(rt; *node, id(1));
+            assert_eq!(rt; parts::field(text.as_text(), Field::Text), Some("k"));
+            assert_eq!(rt; *span, None);
+        }
         _ => assert!(rt; false),
     }
     Ok(())

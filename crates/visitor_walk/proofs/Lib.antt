@@ -9,6 +9,8 @@ pub mod Knowing
 pub mod Growing
 pub mod Closing
 pub mod Passing
+pub mod Leaving
+pub mod Onward
 pub mod Chunks
 pub mod Going
 pub mod Calling

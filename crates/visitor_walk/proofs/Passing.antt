@@ -59,10 +59,10 @@ at_first hs most f os s p w = (stayed hs most f f os s w.nodes (record { text = 
 pub renamed : (hs : List PickedHook) (most : ℕ) (f g : Forest) (os us vs : List Open) (s : State) → vs ≡ us → Stood hs most f os s g us → Stood hs most f os s g vs
 renamed hs most f g os us vs s e h = subst (Stood hs most f os s g) (sym e) h
 
-same_pass : (hs : List PickedHook) (a b : Stage) → a ≡ b → IsPass hs b → IsPass hs a
+pub same_pass : (hs : List PickedHook) (a b : Stage) → a ≡ b → IsPass hs b → IsPass hs a
 same_pass hs a b e p = subst (IsPass hs) (sym e) p
 
-kept_apart : {hs : List PickedHook} {most : ℕ} {f g h : Forest} {os : List Open} {s : State} (us vs : List Open) → (w : Strolls hs most f os s g) → StayApart f g os us → StayApart g h us vs → StayApart f h os vs
+pub kept_apart : {hs : List PickedHook} {most : ℕ} {f g h : Forest} {os : List Open} {s : State} (us vs : List Open) → (w : Strolls hs most f os s g) → StayApart f g os us → StayApart g h us vs → StayApart f h os vs
 kept_apart {f = f} {g = g} {h = h} {os = os} us vs w a b = record {
   apart = λ serial c e k. b.apart serial c (w.kept serial c e k) (a.apart serial c e k);
   count = let i : open_total g.cursors + held os ≡ open_total f.cursors + held us = a.count in let j : open_total h.cursors + held us ≡ open_total g.cursors + held vs = b.count in let k : open_total h.cursors + held os ≡ open_total f.cursors + held vs = omega arith in k;

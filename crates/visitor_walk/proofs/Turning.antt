@@ -1,5 +1,5 @@
 -- One turn of the code is the machine's move.
-use Rattle.std.proofs.Common.{◌≡◌, ◌≢◌, inl, inr, ℕ, suc, ◌+◌, List, [], ◌∷◌, ◌++◌, Bool, true, false, length, Option, Some, None, IfOk, IsErr, Result, Ok, Err, refl, ap, sym, ◌∙◌, subst, drop, reverse, append-nil, arith, cond, sum_by, length-append}
+use Rattle.std.proofs.Common.{◌≡◌, ◌≢◌, inl, inr, ℕ, suc, ◌+◌, ◌≤◌, List, [], ◌∷◌, ◌++◌, Bool, true, false, length, Option, Some, None, IfOk, IsErr, Result, Ok, Err, refl, ap, sym, ◌∙◌, subst, drop, reverse, append-nil, arith, cond, sum_by, length-append}
 use Rattle.std.specs.declared.alloc.AllocError.{AllocError}
 use Rattle.std.proofs.lemmas.List.{reverse-append}
 use Rattle.std.proofs.lemmas.Bool.{false≢true}
@@ -215,10 +215,10 @@ module _ (hs : List PickedHook) (most : ℕ) (f : Forest) (o : Open) (os : List 
   kept_by : (h : Forest) (new : Option ℕ) (passed : ℕ) → Reseats f h o.children new o.node passed → (serial : ℕ) (c : Place) → cursor_at f.cursors serial ≡ Some c → AllApart (o ∷ os) serial → cursor_at h.cursors serial ≡ Some c
   kept_by h new passed r serial c e a = (r.kept serial c e a.0).0
 
-  below_still : (h : Forest) (new : Option ℕ) (passed : ℕ) → Reseats f h o.children new o.node passed → AllShown h.cursors os top.rest
+  pub below_still : (h : Forest) (new : Option ℕ) (passed : ℕ) → Reseats f h o.children new o.node passed → AllShown h.cursors os top.rest
   below_still h new passed r = below_kept f.cursors h.cursors o.children os top.rest top.others (λ serial c e a. (r.kept serial c e a).0) top.below
 
-  others_still : (h : Forest) (new : Option ℕ) (passed : ℕ) → Reseats f h o.children new o.node passed → AreOthers new os
+  pub others_still : (h : Forest) (new : Option ℕ) (passed : ℕ) → Reseats f h o.children new o.node passed → AreOthers new os
   others_still h new passed r = all_others f.cursors o.children new (λ serial c e a. (r.kept serial c e a).1) os top.rest top.others top.below
 
   pub strolls_not : (h : Forest) (new : Option ℕ) (passed : ℕ) → Reseats f h o.children new o.node passed → Strolls hs most f (o ∷ os) s h
@@ -386,12 +386,10 @@ dirty_less ns m d =
     let j : f (node_at ns m) ≡ 1 = one_dirty (is_dirty ns m) d in
     omega arith
 
-pub less_entered : (f h1 h g : Forest) (old more : List Open) (new : Option ℕ) (p : Open) (child : ℕ) → SameBeside f h1 → NextDirty h1 h new (Some child) → Enters h g old more p child (Ok tt) → IsLess f g old more None
-less_entered f h1 h g old more new p child a b n =
+pub less_entered : (f h g : Forest) (old more : List Open) (p : Open) (child : ℕ) → dirty_total h.nodes ≤ dirty_total f.nodes → is_dirty h.nodes child ≡ true → Enters h g old more p child (Ok tt) → IsLess f g old more None
+less_entered f h g old more p child k dirty n =
     let i : dirty_total g.nodes ≡ dirty_total (with_mark h.nodes child false) = ap dirty_total n.ok.0 in
-    let j : h.nodes ≡ h1.nodes = b.same.nodes in
-    let d : suc (dirty_total (with_mark h.nodes child false)) ≡ dirty_total h.nodes = dirty_less h.nodes child (subst (λ ns. is_dirty ns child ≡ true) (sym j) b.dirty) in
-    let k : dirty_total h.nodes ≡ dirty_total f.nodes = ap dirty_total (j ∙ a.nodes) in
+    let d : suc (dirty_total (with_mark h.nodes child false)) ≡ dirty_total h.nodes = dirty_less h.nodes child dirty in
     let l : length more ≡ length ((old ++ p ∷ []) ++ fresh p.sure child ∷ []) = ap length n.ok.2 in
     let q : length ((old ++ p ∷ []) ++ fresh p.sure child ∷ []) ≡ length (old ++ p ∷ []) + 1 = length-append (old ++ p ∷ []) (fresh p.sure child ∷ []) in
     let r : length (old ++ p ∷ []) ≡ length old + 1 = length-append old (p ∷ []) in

@@ -3,6 +3,7 @@ pub mod Heard
 pub mod Walk
 pub mod Groups
 pub mod Turns
+pub mod Leaves
 pub mod Known
 pub mod Called
 pub mod Ran

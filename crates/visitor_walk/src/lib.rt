@@ -6,6 +6,7 @@ mod fits;
 mod hooks;
 mod known;
 pub mod laws;
+mod leaves;
 mod pass;
 mod reads;
 mod spent;

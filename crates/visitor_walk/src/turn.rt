@@ -13,6 +13,7 @@ ghost use Rattle.visitor_walk.specs.Turns.{IsNext, Opened, NextDirty, Closes, Le
 use crate::fits::next_fitting;
 use crate::hooks::{RunHook, RunHooks};
 use crate::known::share;
+use crate::leaves::pass_leaves;
 use crate::reads::{enter_event, exit_event, is_in_tree, kind};
 use css_text::stop::Stop;
 use node_store::cursors::Cursor;
@@ -98,8 +99,8 @@ fn opened(
     }
 }
 
-// The next dirty child, which is passed then.
-fn next_dirty(work: &mut Work, children: &Option<Cursor>) -> Option<NodeId>
+/// The next dirty child, which is passed then.
+pub fn next_dirty(work: &mut Work, children: &Option<Cursor>) -> Option<NodeId>
     ensures { NextDirty work.old work.new children.now result }
 {
     match children {
@@ -182,7 +183,6 @@ fn go_on(
     ensures grows { length work.old.log ≤ length work.new.log }
     ensures calls { (shelf : List PluginSeen) → AllOnShelf shelf hooks.now → IfOk result (λ r. IfSome r (λ due. IsOnShelf shelf due)) }
 {
-    work.facts();
     let kind = kind(work, visit.node);
     let enters = hooks.at(enter_event(kind));
     if let Some(next) = next_call(work, enters, visit.node, visit.enter) {
@@ -193,7 +193,8 @@ fn go_on(
     visit.enter = enters.len();
     let children = visit.children.take();
     visit.children = opened(work, visit.node, children)?;
-    if let Some(child) = next_dirty(work, &visit.children) {
+    if let Some(child) = pass_leaves(work, hooks, &visit)? {
+        work.facts();
         enter(work, stack, visit, child)?;
         return Ok(None);
     }

@@ -218,9 +218,10 @@ pub fn walk(
     ensures { let seen = shelf_seen (λ b. (⟦<dyn Visitor as Visitor>⟧ b.vtable).told b.value) (λ b. (⟦<dyn Visitor as Visitor>⟧ b.vtable).said b.value) (λ b. (⟦<dyn Visitor as Visitor>⟧ b.vtable).duty b.value) (λ b. (⟦<dyn Visitor as Visitor>⟧ b.vtable).left b.value) in
         Walks work.old work.new (seen shelf.old.items) (seen shelf.new.items) picked.now budget edit_budget result }
 {
-    // Room for the entry and the leave of each node, and for a call and its end where plugins are picked. Without it the
-    // log grows as it goes.
+    // Room for the entry and the leave of each node, for a call and its end where plugins are picked, and for the pass and the
+    // end. Without it the log grows as it goes.
     let each = if picked.is_empty() { 2 } else { 4 };
-    let _ = work.reserve_log(work.node_total().saturating_mul(each));
+    let items = work.node_total().saturating_mul(each).saturating_add(2);
+    let _ = work.reserve_log(items);
     walk_hooks(alloc, work, shelf, picked, budget, edit_budget)
 }

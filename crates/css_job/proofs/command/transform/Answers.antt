@@ -5,6 +5,7 @@ use Rattle.css_job.specs.CommandSeen.{options_seen}
 use Rattle.css_job.proofs.Commands.{cut_planned, names_seen}
 use Rattle.css_job.proofs.Freshly.{fresh_total}
 use Rattle.css_job.proofs.Transforming.{cut_walk, cut_plan, planned_walk}
+use Rattle.css_job.proofs.Unedited.{keeps_text}
 use Rattle.css_job.proofs.command.transform.Goals as goal
 
 pub returns-in_err-end : goal.returns-in_err-end
@@ -15,6 +16,12 @@ returns-in_err-end g c =
     cut_planned c.from_residual.result (Transform (options_seen c.args.options)) old new c.args.work.text c.from_residual.ensures.0
     (cut_walk c.args.work c.walk.new.work c.facts.ensures c.requires.fresh old new (options_seen c.args.options) c.budget_for-budget.result c.budget_for-edit_budget.result (c.budget_for-budget.ensures c.requires.fresh.tree total) (c.budget_for-edit_budget.ensures c.requires.fresh.tree total)
     c.deref.result.now c.deref.ensures.value c.walk.result c.walk.ensures c.in_err-end.field-0.0 c.in_err-end.was)
+
+pub walk_plan-requires : goal.walk_plan-requires
+walk_plan-requires g c =
+    let old = shelf_seen (λ b. (goal.Visitor-dyn g (b.vtable, b.value)).told b.value) (λ b. (goal.Visitor-dyn g (b.vtable, b.value)).said b.value) (λ b. (goal.Visitor-dyn g (b.vtable, b.value)).duty b.value) (λ b. (goal.Visitor-dyn g (b.vtable, b.value)).left b.value) c.args.shelf.now.items in
+    let new = shelf_seen (λ b. (goal.Visitor-dyn g (b.vtable, b.value)).told b.value) (λ b. (goal.Visitor-dyn g (b.vtable, b.value)).said b.value) (λ b. (goal.Visitor-dyn g (b.vtable, b.value)).duty b.value) (λ b. (goal.Visitor-dyn g (b.vtable, b.value)).left b.value) c.walk.new.shelf.items in
+    keeps_text c.args.work c.walk.new.work c.take_log-log.new.self c.facts.ensures c.requires.fresh old new c.deref.result.now c.budget_for-budget.result c.budget_for-edit_budget.result c.walk.result c.take_log-log.result.items c.deref-2.result.now c.walk.ensures c.take_log-log.ensures.log c.take_log-log.ensures.state c.deref-2.ensures.value
 
 pub returns-in_err-plan : goal.returns-in_err-plan
 returns-in_err-plan g c =

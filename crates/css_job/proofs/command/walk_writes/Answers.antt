@@ -17,7 +17,7 @@ returns g c =
       | else-is_traced w ↦ wrote_none c.if-is_traced.writes.items c.args.is_traced names c.args.log.now (ap (λ v. v.items) w.writes-is ∙ c.new-writes.ensures.items) w.if-is_traced.false
     ] in elim c.match-end.branch [
       | in-Done+in_ok-printed+in_ok-push-2 w ↦
-          wrote_printing c.match-end.writes.items c.if-is_traced.writes.items w.in_ok-printed.printed.text c.args.end.now c.args.work.now (traced c.args.is_traced names c.args.log.now)
-          (ap (λ v. v.items) w.writes-is ∙ w.in_ok-push-2.ensures.items) first w.in_ok-printed.ensures.text w.in-Done.is
+          wrote_printing c.match-end.writes.items c.if-is_traced.writes.items w.in_ok-printed.printed c.args.end.now c.args.work.now (traced c.args.is_traced names c.args.log.now)
+          (ap (λ v. v.items) w.writes-is ∙ w.in_ok-push-2.ensures.items) first w.in_ok-printed.ensures w.in-Done.is
       | in_default w ↦ wrote_no_printing c.match-end.writes.items c.if-is_traced.writes.items c.args.end.now c.args.work.now (traced c.args.is_traced names c.args.log.now) (ap (λ v. v.items) w.writes-is) first w.in_default.not-Done
     ]

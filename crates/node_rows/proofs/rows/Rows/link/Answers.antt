@@ -29,6 +29,11 @@ join-requires-clause-few c =
     let h = short_kids rs c.args.parent c.args.at c.args.node c.self.invariant.0 bp bn c.requires.not_root loose apart place in
     omega (arith, (c.self.invariant.0.joined c.args.parent bp).1, c.self.invariant.0.sound.few, length-shown rs)
 
+pub join-requires-clause-total : goal.join-requires-clause-total
+join-requires-clause-total c =
+    let rs = c.self.inside.items.items in
+    omega (arith, c.self.invariant.0.sound.few, length-shown rs)
+
 pub invariant_of-self : goal.invariant_of-self
 invariant_of-self c =
     let rs = c.self.inside.items.items in

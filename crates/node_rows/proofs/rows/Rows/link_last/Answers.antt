@@ -27,6 +27,11 @@ join-requires-clause-few c =
     let apart : holds (shown_rows rs) c.args.node c.args.parent ≡ false = rw c.self.view_is c.requires.apart in
     last_few rs c.self.invariant.0 c.args.parent c.args.node wp wn c.requires.not_root loose apart
 
+pub join-requires-clause-total : goal.join-requires-clause-total
+join-requires-clause-total c =
+    let rs = c.self.inside.items.items in
+    omega (arith, c.self.invariant.0.sound.few, length-shown rs)
+
 pub invariant_of-self : goal.invariant_of-self
 invariant_of-self c =
     let rs = c.self.inside.items.items in
@@ -35,7 +40,7 @@ invariant_of-self c =
     let loose : parent_of (shown_rows rs) c.args.node ≡ None = rw c.self.view_is c.requires.loose in
     let apart : holds (shown_rows rs) c.args.node c.args.parent ≡ false = rw c.self.view_is c.requires.apart in
     let r = get_or_read rs c.args.parent c.index-row.result.now (rw (← length-shown rs) wp) c.index-row.ensures no_row in
-    let e = c.join.ensures ∙ ap (λ x. joined_in rs c.args.parent c.args.node x.last None) r in
+    let e = c.join.ensures ∙ (ap (joined_in rs c.args.parent c.args.node c.index-row.result.now.last) c.none.ensures ∙ ap (λ x. joined_in rs c.args.parent c.args.node x.last None) r) in
     let counts = ap (λ x. x.count) r ∙ last_counts rs c.self.invariant.0 c.args.parent c.args.node wp wn c.requires.not_root loose apart in
     let shows = last_shown rs c.self.invariant.0 c.args.parent c.args.node wp wn c.requires.not_root loose apart c.join.new.rows.items e ∙ ap (λ at. linked (shown_rows rs) c.args.parent at c.args.node) (sym counts) in (
       last_linked rs c.self.invariant.0 c.args.parent c.args.node wp wn c.requires.not_root loose apart c.join.new.rows.items e,
@@ -50,5 +55,5 @@ returns c =
     let loose : parent_of (shown_rows rs) c.args.node ≡ None = rw c.self.view_is c.requires.loose in
     let apart : holds (shown_rows rs) c.args.node c.args.parent ≡ false = rw c.self.view_is c.requires.apart in
     let r = get_or_read rs c.args.parent c.index-row.result.now (rw (← length-shown rs) wp) c.index-row.ensures no_row in
-    last_shown rs c.self.invariant.0 c.args.parent c.args.node wp wn c.requires.not_root loose apart c.join.new.rows.items (c.join.ensures ∙ ap (λ x. joined_in rs c.args.parent c.args.node x.last None) r)
+    last_shown rs c.self.invariant.0 c.args.parent c.args.node wp wn c.requires.not_root loose apart c.join.new.rows.items (c.join.ensures ∙ (ap (joined_in rs c.args.parent c.args.node c.index-row.result.now.last) c.none.ensures ∙ ap (λ x. joined_in rs c.args.parent c.args.node x.last None) r))
     ∙ ap (λ ns. linked ns c.args.parent (length (children_of ns c.args.parent)) c.args.node) c.self.view_is

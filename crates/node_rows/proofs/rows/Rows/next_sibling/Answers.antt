@@ -11,4 +11,4 @@ returns-in-Some c =
     let rs = c.self.inside.items.items in
     let b : c.args.n < length rs = rw (← length-shown rs) (rw c.self.view_is c.requires) in
     let r = get_or_read rs c.args.n c.index-row.result.now b c.index-row.ensures no_row in
-    ap (λ x. x.after) r ∙ (after-is rs c.self.invariant.0 c.args.n c.in-Some.field-0 b (sym (ap (λ x. x.parent) r) ∙ c.in-Some.is) ∙ ap (λ ns. next_sibling_of ns c.args.n) c.self.view_is)
+    c.get-in-Some.ensures ∙ (ap (λ x. x.after) r ∙ (after-is rs c.self.invariant.0 c.args.n c.in-Some.field-0 b (sym (ap (λ x. x.parent) r) ∙ (sym c.get.ensures ∙ c.in-Some.is)) ∙ ap (λ ns. next_sibling_of ns c.args.n) c.self.view_is))
