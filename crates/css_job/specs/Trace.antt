@@ -59,8 +59,8 @@ abbrev pub name_at : List (List ℕ) → ℕ → List ℕ
 name_at names place = encode_utf8_all (slice_index_or names place [])
 
 abbrev pub edit_text : Edit → List ℕ
-edit_text (D.Set node field text) = codes "edit set " ++ (decimal node ++ (codes " " ++ field_name field))
-edit_text (D.SetRaw node raw text) = codes "edit raw " ++ (decimal node ++ (codes " " ++ raw_name raw))
+edit_text (D.Set field node text) = codes "edit set " ++ (decimal node ++ (codes " " ++ field_name field))
+edit_text (D.SetRaw raw node text) = codes "edit raw " ++ (decimal node ++ (codes " " ++ raw_name raw))
 edit_text (D.New node text span) = codes "edit new " ++ decimal node
 edit_text (D.Insert node parent at) = codes "edit insert " ++ (decimal node ++ (codes " under " ++ (decimal parent ++ (codes " at " ++ decimal at))))
 edit_text (D.Remove node) = codes "edit remove " ++ decimal node

@@ -32,8 +32,8 @@ Dropped = trace (codes "drop-empty" ∷ []) dropped ≡ codes "pass\nenter 0\nen
 -- one edit of each kind, and then a fault
 abbrev pub edited : List Item
 edited = called 1 0 E.Declaration 12
-    ∷ I.Edit (D.Set 12 F.Value (codes "x"))
-    ∷ I.Edit (D.SetRaw 7 R.AfterName [])
+    ∷ I.Edit (D.Set F.Value 12 (codes "x"))
+    ∷ I.Edit (D.SetRaw R.AfterName 7 [])
     ∷ I.Edit (D.New 13 (N.Comment None [] (codes "k") []) None)
     ∷ I.Edit (D.Insert 13 7 10)
     ∷ I.Edit (D.Remove 12)

@@ -4,6 +4,7 @@ use crate::trace::{caller, trace};
 use crate::trace_laws::trace_examples;
 use css_text::txt::Txt;
 use css_tree::node::{Field, NodeText, Raw};
+use node_rows::packed::PackedSpan;
 use node_store::boxed_text::BoxedText;
 use node_store::id::NodeId;
 use node_store::item::{Edit, Event, Item, Moment};
@@ -40,13 +41,13 @@ fn call(plugin: u32, hook: u32, event: Event, node: u32) -> Item {
 
 fn push_sets(alloc: Global, log: &mut Vec<Item>) -> Result<(), AllocError> {
     log.push(Item::Edit(Edit::Set {
-        node: id(2),
         field: Field::Params,
+        node: id(2),
         text: Txt::new(alloc, "print")?,
     }))?;
     log.push(Item::Edit(Edit::SetRaw {
-        node: id(2),
         raw: Raw::AfterName,
+        node: id(2),
         text: Txt::new(alloc, " ")?,
     }))?;
     Ok(())
@@ -56,7 +57,7 @@ fn push_moves(log: &mut Vec<Item>, text: BoxedText) -> Result<(), AllocError> {
     log.push(Item::Edit(Edit::New {
         node: id(13),
         text,
-        span: None,
+        span: PackedSpan::new(None)?,
     }))?;
     log.push(Item::Edit(Edit::Insert {
         node: id(13),

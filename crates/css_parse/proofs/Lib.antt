@@ -35,3 +35,5 @@ pub mod PlainClean
 pub mod PlainParts
 pub mod PlainNodes
 pub mod PlainGoing
+pub mod PlainSpaces
+pub mod PlainClosing

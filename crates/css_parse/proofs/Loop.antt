@@ -4,12 +4,12 @@ use Rattle.std.proofs.Common.{IfOk, MatchOption, ◌≡◌, ℕ, ◌+◌, ◌-�
 use Rattle.std.specs.Str.{chars, IsUtf8, IsCharBoundary}
 use Rattle.css_text.specs.declared.lexer.Piece.{Piece as LexPiece}
 use Rattle.css_text.specs.declared.lexer.LexFault.{LexFault}
-use Rattle.css_text.specs.Pieces.{Unclosed, string, comment, url, Token, cut}
+use Rattle.css_text.specs.Pieces.{Unclosed, string, comment, url, cut}
 use Rattle.css_text.specs.PieceKinds.{IsOfKind, AreOfKinds}
 use Rattle.css_text.specs.Ahead.{Ahead, ahead, behind, fault_at, next_of, rest_of, byte_len, begins_bom, bom_len, without_bom, pieces}
 use Rattle.css_text.proofs.PieceKinds.{cut_kinds}
 use Rattle.css_text.proofs.Slices.{IsSlice, from_boundary, slice_chars, byte_len_some}
-use Rattle.css_text.proofs.Reader.{IsAt, Next, at_next, at_end, at_fault}
+use Rattle.css_text.proofs.Reader.{Next, at_next, at_end, at_fault}
 use Rattle.css_text.proofs.Start.{start_view}
 use Rattle.css_text.proofs.ReaderStart.{at_start}
 use Rattle.css_tree.proofs.Reader.{outcome}

@@ -1,5 +1,5 @@
 -- The loop over a plain statement.
-use Rattle.std.proofs.Common.{◌≡◌, ℕ, ◌+◌, ◌-◌, ◌<◌, ◌≤◌, List, [], ◌∷◌, length, drop, take, reverse, refl, ap, ◌∙◌, sym, subst, arith}
+use Rattle.std.proofs.Common.{◌≡◌, ℕ, ◌+◌, ◌-◌, ◌<◌, ◌≤◌, List, [], ◌∷◌, length, drop, take, ap, ◌∙◌, sym, subst, arith}
 use Rattle.std.specs.Str.{chars, IsUtf8, IsCharBoundary}
 use Rattle.std.proofs.lemmas.List.{length-reverse}
 use Rattle.css_text.specs.Ahead.{ahead}
@@ -12,12 +12,13 @@ use Rattle.css_parse.specs.Going.{Reading, Going}
 use Rattle.css_parse.specs.Model.{model, IsUpTo}
 use Rattle.css_parse.specs.Plain.{IsPlainLeaf, IsPlainHead, IsLeafRun, IsHeadRun}
 use Rattle.css_parse.specs.PlainSteps.{leaf_next, head_next, brace}
-use Rattle.css_parse.specs.Standing.{sheet, IsSheet}
-use Rattle.css_parse.proofs.PlainHeads.{HeadReading, head-reading}
+use Rattle.css_parse.specs.Standing.{sheet}
+use Rattle.css_parse.proofs.PlainHeads.{head-reading}
 use Rattle.css_parse.proofs.PlainParts.{head-parts}
-use Rattle.css_parse.proofs.PlainReadings.{LeafReading, leaf-reading}
+use Rattle.css_parse.proofs.PlainReadings.{leaf-reading}
 
-gap-here : (bs : List ℕ) (at : ℕ) (p : Parser) → IsUpTo bs p at → p.run ≡ [] → p.gap.end ≡ at
+-- the gap ends where the parser stands
+pub gap-here : (bs : List ℕ) (at : ℕ) (p : Parser) → IsUpTo bs p at → p.run ≡ [] → p.gap.end ≡ at
 gap-here bs at p u e = sym (ap (last_end p.gap.end) e) ∙ u.end
 
 -- what is known where a declaration was found

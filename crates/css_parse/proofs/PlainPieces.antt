@@ -20,7 +20,7 @@ is_unit c = is_name c || c == 33
 
 -- a piece by itself
 abbrev pub is_sign : ℕ → Bool
-is_sign c = c == 58 || c == 44 || c == 59 || c == 123 || c == 40 || c == 41
+is_sign c = c == 58 || c == 44 || c == 59 || c == 123 || c == 40 || c == 41 || c == 125
 
 -- what ends a word and stands in no `url(`
 abbrev pub is_stop : ℕ → Bool
@@ -46,7 +46,7 @@ unit-low c e = is_low is_unit (λ c h. rw (le-ltb c 128 h, ne_eqb c 33 (λ e. om
 
 pub sign-low : (c : ℕ) → is_sign c ≡ true → c < 128
 sign-low c e = is_low is_sign
-    (λ c h. rw (ne_eqb c 58 (λ e. omega arith), ne_eqb c 44 (λ e. omega arith), ne_eqb c 59 (λ e. omega arith), ne_eqb c 123 (λ e. omega arith), ne_eqb c 40 (λ e. omega arith), ne_eqb c 41 (λ e. omega arith)) refl) c e
+    (λ c h. rw (ne_eqb c 58 (λ e. omega arith), ne_eqb c 44 (λ e. omega arith), ne_eqb c 59 (λ e. omega arith), ne_eqb c 123 (λ e. omega arith), ne_eqb c 40 (λ e. omega arith), ne_eqb c 41 (λ e. omega arith), ne_eqb c 125 (λ e. omega arith)) refl) c e
 
 pub space-low : (c : ℕ) → is_space c ≡ true → c < 128
 space-low c e = is_low is_space is_space-high c e
@@ -169,7 +169,7 @@ units [] [] h k = absurd k
 units [] (x ∷ xs) h k = rw k refl
 units (c ∷ t) z h k = rw (unit-ends c h.0, unit-slash c h.0, unit-escape c h.0, units t z h.1 k) refl
 
-spaces : (t z : List ℕ) → Each is_space t → BeginsWithout is_space z → space_len (t ++ z) ≡ length t
+pub spaces : (t z : List ℕ) → Each is_space t → BeginsWithout is_space z → space_len (t ++ z) ≡ length t
 spaces [] [] h k = refl
 spaces [] (x ∷ xs) h k = rw k refl
 spaces (c ∷ t) z h k = rw (h.0, spaces t z h.1 k) (one-add (length t))

@@ -242,15 +242,16 @@ impl<'t> Parser<'t> {
         })
     }
 
-    fn seal(&mut self, piece: &Piece<'t>) -> Result<(), AllocError>
+    /// Writes the open container's end, whose `}` ends at that byte.
+    fn seal(&mut self, end: u32) -> Result<(), AllocError>
         requires known { self.old.number < length self.old.nodes }
         requires gap { IsPart (sheet self.old.texts) self.old.gap.start self.old.gap.end }
-        ensures model { IfOk result (λ _. model self.new ≡ sealed (model self.old) piece.now) }
+        ensures model { IfOk result (λ _. (p : Seen) → end_of p ≡ end → model self.new ≡ sealed (model self.old) p) }
         ensures texts { IfOk result (λ _. self.new.texts ≡ self.old.texts) }
     {
         let block = self.block()?;
         self.nodes.set_block(self.number, block);
-        self.nodes.set_end(self.number, piece.end());
+        self.nodes.set_end(self.number, end);
         Ok(())
     }
 
@@ -280,6 +281,21 @@ impl<'t> Parser<'t> {
         self.run.clear();
     }
 
+    /// Closes the open block behind its last node, where its `}` ends at that byte.
+    pub fn close_at(&mut self, end: u32) -> Result<(), AllocError>
+        requires known { self.old.number < length self.old.nodes }
+        requires gap { IsPart (sheet self.old.texts) self.old.gap.start self.old.gap.end }
+        ensures model { IfOk result (λ _. (p : Seen) → end_of p ≡ end → model self.new ≡ left (sealed (model self.old) p)) }
+        ensures texts { IfOk result (λ _. self.new.texts ≡ self.old.texts) }
+        ensures gap { IfOk result (λ _. self.new.gap ≡ record { start = end; end = end }) }
+        ensures run { IfOk result (λ _. self.new.run ≡ []) }
+    {
+        self.seal(end)?;
+        self.gap = Gap::at(end);
+        self.leave();
+        Ok(())
+    }
+
     fn close_block(&mut self, piece: &Piece<'t>) -> Result<(), AllocError>
         requires ready { IsReady (model self.old) }
         requires small { IsSmall (model self.old) 67108864 }
@@ -288,10 +304,7 @@ impl<'t> Parser<'t> {
         ensures up_to { IfOk result (λ _. IsUpTo (sheet self.old.texts) self.new (end_of piece.now)) }
     {
         self.give_back()?;
-        self.seal(piece)?;
-        self.gap = Gap::at(piece.end());
-        self.leave();
-        Ok(())
+        self.close_at(piece.end())
     }
 }
 

@@ -15,6 +15,7 @@ use crate::plain::{Plain, PlainHead, PlainLeaf, statement_at};
 use crate::plain_nodes::{plain_head_node, plain_leaf_node};
 use crate::turn::Frame;
 use css_text::lexer::PieceKind;
+use css_text::scan::{byte_at, spaces_end};
 use std::alloc::AllocError;
 
 /// The `{` at that byte, as a piece.
@@ -75,17 +76,29 @@ impl<'t> Parser<'t> {
         Ok(())
     }
 
-    /// Takes the plain statement that stands at the byte, where one is found and no statement is in progress, and answers the byte
-    /// behind it. After an error the parser may not be used again.
+    /// Closes the open block where its `}` stands at the byte, and answers the byte behind it.
     #[inline(always)]
-    pub fn take_plain(&mut self, src: &'t str, at: usize) -> Result<Option<usize>, AllocError>
+    fn take_close(&mut self, src: &str, at: usize) -> Result<Option<usize>, AllocError>
+        requires idle { self.old.run ≡ [] }
         requires going { Going (chars src.now) src.now at self.old }
         requires short { length src.now ≤ 67108864 }
         ensures { IfOk result (λ r. MatchOption r (self.new ≡ self.old) (λ next. (at < next) × (next ≤ length src.now) × Going (chars src.now) src.now next self.new)) }
     {
-        if !self.run.as_slice().is_empty() {
+        if byte_at(src.as_bytes(), at) != b'}' || self.frames.is_empty() {
             return Ok(None);
         }
+        self.close_at(at as u32 + 1)?;
+        Ok(Some(at + 1))
+    }
+
+    /// Takes the plain statement or the `}` of the open block that stands at the byte, where one is found.
+    #[inline(always)]
+    fn take_statement(&mut self, src: &'t str, at: usize) -> Result<Option<usize>, AllocError>
+        requires idle { self.old.run ≡ [] }
+        requires going { Going (chars src.now) src.now at self.old }
+        requires short { length src.now ≤ 67108864 }
+        ensures { IfOk result (λ r. MatchOption r (self.new ≡ self.old) (λ next. (at < next) × (next ≤ length src.now) × Going (chars src.now) src.now next self.new)) }
+    {
         match statement_at(src.as_bytes(), at) {
             Some(Plain::Leaf(leaf)) => {
                 self.add_plain_leaf(&leaf)?;
@@ -95,7 +108,43 @@ impl<'t> Parser<'t> {
                 self.add_plain_head(&head, brace_at(src, head.brace))?;
                 Ok(Some(head.brace + 1))
             }
-            _ => Ok(None),
+            _ => self.take_close(src, at),
+        }
+    }
+
+    /// Takes the white space at the byte into the gap, and answers where it ends.
+    #[inline(always)]
+    fn skip_spaces(&mut self, src: &str, at: usize) -> usize
+        requires idle { self.old.run ≡ [] }
+        requires going { Going (chars src.now) src.now at self.old }
+        requires short { length src.now ≤ 67108864 }
+        ensures going { Going (chars src.now) src.now result self.new }
+        ensures idle { self.new.run ≡ [] }
+        ensures order { at ≤ result }
+        ensures within { result ≤ length src.now }
+        ensures still { result ≡ at → self.new ≡ self.old }
+    {
+        let end = spaces_end(src.as_bytes(), at);
+        self.gap.end = end as u32;
+        end
+    }
+
+    /// Takes the white space at the byte and the plain statement or `}` behind it, where no statement is in progress, and answers the
+    /// byte behind what was taken, or `None` where nothing was. After an error the parser may not be used again.
+    #[inline(always)]
+    pub fn take_plain(&mut self, src: &'t str, at: usize) -> Result<Option<usize>, AllocError>
+        requires going { Going (chars src.now) src.now at self.old }
+        requires short { length src.now ≤ 67108864 }
+        ensures { IfOk result (λ r. MatchOption r (self.new ≡ self.old) (λ next. (at < next) × (next ≤ length src.now) × Going (chars src.now) src.now next self.new)) }
+    {
+        if !self.run.as_slice().is_empty() {
+            return Ok(None);
+        }
+        let from = self.skip_spaces(src, at);
+        match self.take_statement(src, from)? {
+            Some(next) => Ok(Some(next)),
+            None if at < from => Ok(Some(from)),
+            None => Ok(None),
         }
     }
 }

@@ -133,7 +133,7 @@ pub fn shown(alloc: Global, nodes: NodeList) -> Result<String, AllocError> {
 
 #[test]
 fn trees(rt: HostRuntime) -> Result<(), Fail> {
-    let table: [(&str, &str); 40] = [
+    let table: [(&str, &str); 42] = [
         ("", "0 0-0 root.[]\n"),
         (" \n", "0 0-2 root.[ \n]\n"),
         ("\u{feff}a{}", "0 0-6 bom.[]\n0 3-6 rule[][a][a][].[]\n"),
@@ -174,6 +174,14 @@ fn trees(rt: HostRuntime) -> Result<(), Fail> {
         ("/*  */", "0 0-6 root.[]\n0 0-6 comment[][  ][][]\n"),
         (";; a{}; ", "0 0-8 root.[; ]\n0 3-6 rule[;; ][a][a][].[]\n"),
         ("{}", "0 0-2 root.[]\n0 0-2 rule[][][][].[]\n"),
+        (
+            "\t\n\u{c}\r a{}",
+            "0 0-8 root.[]\n0 5-8 rule[\t\n\u{c}\r ][a][a][].[]\n",
+        ),
+        (
+            "a{ b{} \n}\t",
+            "0 0-10 root.[\t]\n0 0-9 rule[][a][a][].[ \n]\n1 3-6 rule[ ][b][b][].[]\n",
+        ),
         (
             "a /*x*/ {}",
             "0 0-10 root.[]\n0 0-10 rule[][a][a][ /*x*/ ].[]\n",

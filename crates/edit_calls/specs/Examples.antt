@@ -26,7 +26,7 @@ Refused = (appending forest 9 1 ≡ Err NoSuchNode) × (appending forest 0 0 ≡
 
 -- A text that is there already makes no edit.
 abbrev pub SetTexts : Type 0
-SetTexts = (setting forest 1 F.Prop (codes "a") ≡ Err WrongKind) × (shaping forest 1 R.Between (codes " ") ≡ Ok (SetRaw 1 R.Between (codes " ") ∷ [])) × (shaping forest 1 R.Between [] ≡ Ok [])
+SetTexts = (setting forest 1 F.Prop (codes "a") ≡ Err WrongKind) × (shaping forest 1 R.Between (codes " ") ≡ Ok (SetRaw R.Between 1 (codes " ") ∷ [])) × (shaping forest 1 R.Between [] ≡ Ok [])
 
 abbrev pub Cloned : Type 0
 Cloned = (cloning forest 1 ≡ Ok (New 4 (text_of forest 1) (span_of forest 1) ∷ New 5 (text_of forest 2) (span_of forest 2) ∷ Insert 5 4 0 ∷ [])) × (cloning forest 0 ≡ Err IsRoot)

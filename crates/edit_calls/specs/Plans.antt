@@ -36,7 +36,7 @@ refused_field ns n field = (is_unknown ns n, NoSuchNode) ∷ (not (takes_field f
 
 -- another text of a field
 abbrev pub setting : List Node → ℕ → Field → List ℕ → Result (List Edit) TreeFault
-setting ns n field text = plan (refused_field ns n field) (where_changing ns (Set n field text))
+setting ns n field text = plan (refused_field ns n field) (where_changing ns (Set field n text))
 
 -- ` !important`, or nothing
 abbrev pub important_text : Bool → List ℕ
@@ -47,7 +47,7 @@ refused_raw ns n raw = (is_unknown ns n, NoSuchNode) ∷ (not (takes_raw raw (te
 
 -- another text of a raw
 abbrev pub shaping : List Node → ℕ → Raw → List ℕ → Result (List Edit) TreeFault
-shaping ns n raw text = plan (refused_raw ns n raw) (where_changing ns (SetRaw n raw text))
+shaping ns n raw text = plan (refused_raw ns n raw) (where_changing ns (SetRaw raw n text))
 
 -- a node that has a parent is taken out of it
 abbrev pub removal : List Node → ℕ → List Edit

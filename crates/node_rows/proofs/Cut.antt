@@ -107,7 +107,7 @@ module _ (rs : List Row) (p n : ℕ) (xs ys : List ℕ) (k : IsLinked rs) (bp : 
   ends_here : Segment (next ss) (prev ss) None (row_at ss p).first (xs ++ ys) (row_at ss p).last None
   ends_here = rw (first_here, last_here) segment_here
 
-  counts_here : (row_at ss p).count ≡ length (xs ++ ys)
+  counts_here : (row_at ss p).tally.count ≡ length (xs ++ ys)
   counts_here = count_here rs p n (end_of None xs) (start_of ys None) bp ∙ omega (arith, (k.joined p bp).1, ap length whole, length-append xs (n ∷ ys), length-append xs ys)
 
   segment_other : (q : ℕ) → q < length rs → q ≢ p → Segment (next ss) (prev ss) None (row_at rs q).first (kids rs q) (row_at rs q).last None
@@ -146,7 +146,7 @@ module _ (rs : List Row) (p n : ℕ) (xs ys : List ℕ) (k : IsLinked rs) (bp : 
         | inl e ↦ rw e (kids_here ∙ (sym list_after ∙ sym r.list_here))
         | inr d ↦ kids_other m w d ∙ (sym (kids_are m w) ∙ sym (r.list_other m d))
       ])
-      (ap (λ x. x.dirty) shows ∙ (all_kept rs p n b a (λ x. x.dirty) (λ x. refl) (λ x o. refl) (λ x o. refl) (λ x o. refl) (λ x o. refl) (λ x o. refl) m
+      (ap (λ x. x.dirty) shows ∙ (all_kept rs p n b a (λ x. x.tally.dirty) (λ x. refl) (λ x o. refl) (λ x o. refl) (λ x o. refl) (λ x o. refl) (λ x o. refl) m
       ∙ (ap (λ x. x.dirty) (sym showed) ∙ sym (field_kept (λ x. x.dirty) _ n _ refl m ∙ field_kept (λ x. x.dirty) ns p _ refl m))))
 
   shown_between : shown_rows ss ≡ unlinked ns p (place_of ns p n) n
@@ -160,8 +160,8 @@ module _ (rs : List Row) (p n : ℕ) (xs ys : List ℕ) (k : IsLinked rs) (bp : 
     joined = λ q h.
         let w : q < length rs = rw (← length_cut rs p n (end_of None xs) (start_of ys None)) h in
         elim (cases_eq q p) [
-          | inl e ↦ rw e (subst (λ l. Segment (next ss) (prev ss) None (row_at ss p).first l (row_at ss p).last None × ((row_at ss p).count ≡ length l)) (sym kids_here) (ends_here, counts_here))
-          | inr d ↦ subst (λ l. Segment (next ss) (prev ss) None (row_at ss q).first l (row_at ss q).last None × ((row_at ss q).count ≡ length l)) (sym (kids_other q w d))
+          | inl e ↦ rw e (subst (λ l. Segment (next ss) (prev ss) None (row_at ss p).first l (row_at ss p).last None × ((row_at ss p).tally.count ≡ length l)) (sym kids_here) (ends_here, counts_here))
+          | inr d ↦ subst (λ l. Segment (next ss) (prev ss) None (row_at ss q).first l (row_at ss q).last None × ((row_at ss q).tally.count ≡ length l)) (sym (kids_other q w d))
               (rw (first_other rs p n (end_of None xs) (start_of ys None) q d, last_other rs p n (end_of None xs) (start_of ys None) q d) (segment_other q w d), count_other rs p n (end_of None xs) (start_of ys None) q d ∙ (k.joined q w).1)
         ];
   }
@@ -207,7 +207,7 @@ module _ (rs : List Row) (k : IsLinked rs) (p n : ℕ) (child : parent_of (shown
   pub after-within : IsWithin rs (row_at rs n).after
   after-within = is_within rs _ (λ z e. start_within rs k p parent_in (at + 1) z (e ∙ after))
 
-  pub some-counted : 0 < (row_at rs p).count
+  pub some-counted : 0 < (row_at rs p).tally.count
   some-counted = omega (arith, (k.joined p parent_in).1, inside)
 
   module _ (ss : List Row) (e : ss ≡ cut_from rs p n (row_at rs n).before (row_at rs n).after) where

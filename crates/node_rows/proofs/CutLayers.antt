@@ -37,7 +37,7 @@ module _ (rs : List Row) (p n : ℕ) (b a : Option ℕ) where
       ∙ before_new _ a p b m (rw (length_after (freed rs n) b p a, length_freed) w) k
 
   -- a field that no write of a cut touches
-  pub all_kept : {A : Type 0} (f : Row → A) → ((r : Row) → f (record r { parent = None; before = None; after = None }) ≡ f r) → ((r : Row) (o : Option ℕ) → f (record r { first = o }) ≡ f r) → ((r : Row) (o : Option ℕ) → f (record r { after = o }) ≡ f r) → ((r : Row) (o : Option ℕ) → f (record r { last = o }) ≡ f r) → ((r : Row) (o : Option ℕ) → f (record r { before = o }) ≡ f r) → ((r : Row) (c : ℕ) → f (record r { count = c }) ≡ f r) → (m : ℕ) → f (row_at (cut_from rs p n b a) m) ≡ f (row_at rs m)
+  pub all_kept : {A : Type 0} (f : Row → A) → ((r : Row) → f (record r { parent = None; before = None; after = None }) ≡ f r) → ((r : Row) (o : Option ℕ) → f (record r { first = o }) ≡ f r) → ((r : Row) (o : Option ℕ) → f (record r { after = o }) ≡ f r) → ((r : Row) (o : Option ℕ) → f (record r { last = o }) ≡ f r) → ((r : Row) (o : Option ℕ) → f (record r { before = o }) ≡ f r) → ((r : Row) (c : ℕ) → f (record r { tally = record r.tally { count = c } }) ≡ f r) → (m : ℕ) → f (row_at (cut_from rs p n b a) m) ≡ f (row_at rs m)
   all_kept f h1 h2 h3 h4 h5 h6 m =
       row_kept f _ p _ (h6 _ _) m
       ∙ (kept_before f h4 h5 _ a p b m
@@ -67,18 +67,18 @@ module _ (rs : List Row) (p n : ℕ) (b a : Option ℕ) where
       ∙ (before_last_other _ a p b q h
       ∙ (kept_after (λ r. r.last) (λ r o. refl) (λ r o. refl) _ b p a q ∙ row_kept (λ r. r.last) rs n _ refl q))
 
-  pub count_other : (q : ℕ) → q ≢ p → (row_at (cut_from rs p n b a) q).count ≡ (row_at rs q).count
+  pub count_other : (q : ℕ) → q ≢ p → (row_at (cut_from rs p n b a) q).tally.count ≡ (row_at rs q).tally.count
   count_other q h =
-      row_other (λ r. r.count) _ p _ q h
-      ∙ (kept_before (λ r. r.count) (λ r o. refl) (λ r o. refl) _ a p b q
-      ∙ (kept_after (λ r. r.count) (λ r o. refl) (λ r o. refl) _ b p a q ∙ row_kept (λ r. r.count) rs n _ refl q))
+      row_other (λ r. r.tally.count) _ p _ q h
+      ∙ (kept_before (λ r. r.tally.count) (λ r o. refl) (λ r o. refl) _ a p b q
+      ∙ (kept_after (λ r. r.tally.count) (λ r o. refl) (λ r o. refl) _ b p a q ∙ row_kept (λ r. r.tally.count) rs n _ refl q))
 
-  pub count_here : p < length rs → (row_at (cut_from rs p n b a) p).count ≡ (row_at rs p).count - 1
+  pub count_here : p < length rs → (row_at (cut_from rs p n b a) p).tally.count ≡ (row_at rs p).tally.count - 1
   count_here w =
       let e : length (with_before (with_after (freed rs n) b p a) a p b) ≡ length rs = length_before _ a p b ∙ (length_after _ b p a ∙ length_freed) in
-      row_same (λ r. r.count) _ p _ (rw e w)
-      ∙ ap (λ c. c - 1) (kept_before (λ r. r.count) (λ r o. refl) (λ r o. refl) _ a p b p
-      ∙ (kept_after (λ r. r.count) (λ r o. refl) (λ r o. refl) _ b p a p ∙ row_kept (λ r. r.count) rs n _ refl p))
+      row_same (λ r. r.tally.count) _ p _ (rw e w)
+      ∙ ap (λ c. c - 1) (kept_before (λ r. r.tally.count) (λ r o. refl) (λ r o. refl) _ a p b p
+      ∙ (kept_after (λ r. r.tally.count) (λ r o. refl) (λ r o. refl) _ b p a p ∙ row_kept (λ r. r.tally.count) rs n _ refl p))
 
 module _ (rs : List Row) (p n : ℕ) where
   pub first_none : (a : Option ℕ) → p < length rs → (row_at (cut_from rs p n None a) p).first ≡ a

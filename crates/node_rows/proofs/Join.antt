@@ -201,7 +201,7 @@ module _ (rs : List Row) (p at n : ℕ) (k : IsLinked rs) (bp : p < length rs) (
       let f = last_is rs p n (front rs p at) (back rs p at) bp (segment-end (next rs) (prev rs) None (row_at rs p).first (kids rs p) (row_at rs p).last None (k.joined p bp).0 ∙ (ap (end_of None) (sym whole) ∙ end_append None (front rs p at) (back rs p at))) in
       rw (e, f) segment_here
 
-  counts_here : (row_at (joined_at rs p at n) p).count ≡ length (front rs p at ++ n ∷ back rs p at)
+  counts_here : (row_at (joined_at rs p at n) p).tally.count ≡ length (front rs p at ++ n ∷ back rs p at)
   counts_here = count_here rs p n (end_of None (front rs p at)) (start_of (back rs p at) None) bp ∙ omega (arith, (k.joined p bp).1, length-insert (kids rs p) at n place)
 
   node_after : (m : ℕ) → m < length rs → node_at (shown_rows (joined_at rs p at n)) m ≡ node_at (linked (shown_rows rs) p at n) m
@@ -227,7 +227,7 @@ module _ (rs : List Row) (p at n : ℕ) (k : IsLinked rs) (bp : p < length rs) (
         | inl e ↦ rw e (kids_here ∙ (ap (λ l. insert l at n) (sym (kids_are p bp)) ∙ sym r.list_here))
         | inr d ↦ kids_other m w d ∙ (sym (kids_are m w) ∙ sym (r.list_other m d))
       ])
-      (ap (λ x. x.dirty) shows ∙ (all_kept rs p n b a (λ x. x.dirty) (λ x o y z. refl) (λ x o. refl) (λ x o. refl) (λ x o. refl) (λ x o. refl) (λ x o. refl) m
+      (ap (λ x. x.dirty) shows ∙ (all_kept rs p n b a (λ x. x.tally.dirty) (λ x o y z. refl) (λ x o. refl) (λ x o. refl) (λ x o. refl) (λ x o. refl) (λ x o. refl) m
       ∙ (ap (λ x. x.dirty) (sym showed) ∙ sym (field_kept (λ x. x.dirty) _ n _ refl m ∙ field_kept (λ x. x.dirty) ns p _ refl m))))
 
   pub shown-joined : shown_rows (joined_at rs p at n) ≡ linked (shown_rows rs) p at n
@@ -246,8 +246,8 @@ module _ (rs : List Row) (p at n : ℕ) (k : IsLinked rs) (bp : p < length rs) (
         joined = λ q h.
             let w : q < length rs = rw (← length_joined rs p n b a) h in
             elim (cases_eq q p) [
-              | inl e ↦ rw e (subst (λ l. Segment (next (joined_at rs p at n)) (prev (joined_at rs p at n)) None (row_at (joined_at rs p at n) p).first l (row_at (joined_at rs p at n) p).last None × ((row_at (joined_at rs p at n) p).count ≡ length l)) (sym kids_here) (ends_here, counts_here))
-              | inr d ↦ subst (λ l. Segment (next (joined_at rs p at n)) (prev (joined_at rs p at n)) None (row_at (joined_at rs p at n) q).first l (row_at (joined_at rs p at n) q).last None × ((row_at (joined_at rs p at n) q).count ≡ length l)) (sym (kids_other q w d))
+              | inl e ↦ rw e (subst (λ l. Segment (next (joined_at rs p at n)) (prev (joined_at rs p at n)) None (row_at (joined_at rs p at n) p).first l (row_at (joined_at rs p at n) p).last None × ((row_at (joined_at rs p at n) p).tally.count ≡ length l)) (sym kids_here) (ends_here, counts_here))
+              | inr d ↦ subst (λ l. Segment (next (joined_at rs p at n)) (prev (joined_at rs p at n)) None (row_at (joined_at rs p at n) q).first l (row_at (joined_at rs p at n) q).last None × ((row_at (joined_at rs p at n) q).tally.count ≡ length l)) (sym (kids_other q w d))
                   (rw (first_other rs p n b a q d, last_other rs p n b a q d) (segment_other q w d), count_other rs p n b a q d ∙ (k.joined q w).1)
             ];
       }

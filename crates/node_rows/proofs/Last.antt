@@ -27,12 +27,12 @@ module _ (rs : List Row) (k : IsLinked rs) (p n : ℕ) (wp : p < length (shown_r
   fits : length (kids rs p) ≤ length (kids rs p)
   fits = omega arith
 
-  pub last_few : (row_at rs p).count < 67108865
+  pub last_few : (row_at rs p).tally.count < 67108865
   last_few =
       let h = short_kids rs p (length (kids rs p)) n k inside node_inside nz loose apart fits in
       omega (arith, (k.joined p inside).1, k.sound.few, length-shown rs)
 
-  pub last_counts : (row_at rs p).count ≡ length (children_of (shown_rows rs) p)
+  pub last_counts : (row_at rs p).tally.count ≡ length (children_of (shown_rows rs) p)
   last_counts = (k.joined p inside).1 ∙ ap length (sym (ap (λ x. x.children) (shown-at rs p inside)))
 
   module _ (ss : List Row) (e : ss ≡ joined_in rs p n (row_at rs p).last None) where

@@ -17,7 +17,7 @@ use Rattle.node_rows.proofs.Join.{length-shown, shown-at, kids}
 
 -- a row of a new node
 abbrev pub new_row : NodeText → Option Span → Row
-new_row text span = record { text = text; span = span; parent = None; first = None; last = None; before = None; after = None; count = 0; dirty = true }
+new_row text span = record { text = text; span = span; parent = None; first = None; last = None; before = None; after = None; tally = record { count = 0; dirty = true } }
 
 row_pushed : {A : Type 0} (f : Row → A) (rs : List Row) (x : Row) → f x ≡ f no_row → (m : ℕ) → f (row_at (rs ++ x ∷ []) m) ≡ f (row_at rs m)
 row_pushed f [] x e zero = e
@@ -46,8 +46,8 @@ row_last : (rs : List Row) (x : Row) → row_at (rs ++ x ∷ []) (length rs) ≡
 row_last [] x = refl
 row_last (y ∷ ys) x = row_last ys x
 
-joined_on : (rs : List Row) (r : Row) (l : List ℕ) → listed rs r ≡ l → Segment (next rs) (prev rs) None r.first l r.last None → r.count ≡ length l → IsJoined rs r
-joined_on rs r l e s c = subst (λ x. Segment (next rs) (prev rs) None r.first x r.last None × (r.count ≡ length x)) (sym e) (s, c)
+joined_on : (rs : List Row) (r : Row) (l : List ℕ) → listed rs r ≡ l → Segment (next rs) (prev rs) None r.first l r.last None → r.tally.count ≡ length l → IsJoined rs r
+joined_on rs r l e s c = subst (λ x. Segment (next rs) (prev rs) None r.first x r.last None × (r.tally.count ≡ length x)) (sym e) (s, c)
 
 module _ (rs : List Row) (k : IsLinked rs) (text : NodeText) (span : Option Span) where
   abbrev pub grown : List Row
@@ -72,7 +72,7 @@ module _ (rs : List Row) (k : IsLinked rs) (text : NodeText) (span : Option Span
 
   pub shown-pushed : shown_rows grown ≡ shown_rows rs ++ new_node text span ∷ []
   shown-pushed =
-      let with_kids : Row → List ℕ → Node = λ r l. record { text = r.text; span = r.span; parent = r.parent; children = l; dirty = r.dirty } in
+      let with_kids : Row → List ℕ → Node = λ r l. record { text = r.text; span = r.span; parent = r.parent; children = l; dirty = r.tally.dirty } in
       let last : List ℕ → List Node = λ l. shown_rows rs ++ with_kids (new_row text span) l ∷ [] in
       map-append (shown grown) rs (new_row text span ∷ [])
       ∙ (ap (λ l. l ++ shown grown (new_row text span) ∷ []) (map_each (shown grown) (shown rs) rs (λ m h. ap (with_kids (row_at rs m)) (listed_same m h)))

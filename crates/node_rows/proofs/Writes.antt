@@ -10,6 +10,7 @@ use Rattle.node_rows.specs.Sound.{IsSound}
 use Rattle.node_rows.specs.Segments.{along, Segment}
 use Rattle.node_rows.specs.Shown.{row_at, next, prev, shown_rows, IsJoined, IsLinked}
 use Rattle.node_rows.specs.Marks.{with_mark}
+use Rattle.node_rows.specs.Tally.{marked_as}
 use Rattle.node_rows.specs.Ends.{with_span}
 use Rattle.node_rows.proofs.Fields.{field_kept, field_same, field_other}
 use Rattle.node_rows.proofs.Join.{length-shown, shown-at, kids, node-same}
@@ -25,7 +26,7 @@ pub record SameRow (r x : Row) : Type 0 where
   pub last : x.last ≡ r.last
   pub before : x.before ≡ r.before
   pub after : x.after ≡ r.after
-  pub count : x.count ≡ r.count
+  pub count : x.tally.count ≡ r.tally.count
 
 along-same : (f g : ℕ → Option ℕ) → ((m : ℕ) → g m ≡ f m) → (k : ℕ) (o : Option ℕ) → along g k o ≡ along f k o
 along-same f g h zero o = refl
@@ -55,13 +56,13 @@ module _ (rs : List Row) (n : ℕ) (x : Row) (b : n < length rs) (h : SameRow (r
   joined_kept : (q : ℕ) → IsJoined rs (row_at rs q) → IsJoined (set rs n x) (row_at (set rs n x) q)
   joined_kept q j =
       let ss = set rs n x in
-      subst (λ l. Segment (next ss) (prev ss) None (row_at ss q).first l (row_at ss q).last None × ((row_at ss q).count ≡ length l)) (sym (kids_kept q)) (
+      subst (λ l. Segment (next ss) (prev ss) None (row_at ss q).first l (row_at ss q).last None × ((row_at ss q).tally.count ≡ length l)) (sym (kids_kept q)) (
         rw (row_kept (λ r. r.first) rs n x h.first q, row_kept (λ r. r.last) rs n x h.last q) (segment-same (next rs) (prev rs) (next ss) (prev ss) None (row_at rs q).first (kids rs q) (row_at rs q).last None (all_of _ nexts (kids rs q)) (all_of _ prevs (kids rs q)) j.0),
-        row_kept (λ r. r.count) rs n x h.count q ∙ j.1,
+        row_kept (λ r. r.tally.count) rs n x h.count q ∙ j.1,
       )
 
   -- y is the node at n with x's text, span and mark
-  module _ (y : Node) (text : x.text ≡ y.text) (dirty : x.dirty ≡ y.dirty) (span : x.span ≡ y.span) (parent : y.parent ≡ parent_of (shown_rows rs) n) (list : y.children ≡ children_of (shown_rows rs) n) where
+  module _ (y : Node) (text : x.text ≡ y.text) (dirty : x.tally.dirty ≡ y.dirty) (span : x.span ≡ y.span) (parent : y.parent ≡ parent_of (shown_rows rs) n) (list : y.children ≡ children_of (shown_rows rs) n) where
     node_written : (m : ℕ) → m < length rs → node_at (shown_rows (set rs n x)) m ≡ node_at (set (shown_rows rs) n y) m
     node_written m w =
         let ns = shown_rows rs in
@@ -74,7 +75,7 @@ module _ (rs : List Row) (n : ℕ) (x : Row) (b : n < length rs) (h : SameRow (r
         (ap (λ z. z.span) shows ∙ field_written (λ r. r.span) (λ z. z.span) rs ns n m x y b bn (ap (λ z. z.span) (sym showed)) span)
         (ap (λ z. z.parent) shows ∙ field_written (λ r. r.parent) (λ z. z.parent) rs ns n m x y b bn (ap (λ z. z.parent) (sym showed)) (h.parent ∙ (ap (λ z. z.parent) (sym here) ∙ sym parent)))
         (ap (λ z. z.children) shows ∙ (kids_kept m ∙ (ap (λ z. z.children) (sym showed) ∙ sym (field_kept (λ z. z.children) ns n y list m))))
-        (ap (λ z. z.dirty) shows ∙ field_written (λ r. r.dirty) (λ z. z.dirty) rs ns n m x y b bn (ap (λ z. z.dirty) (sym showed)) dirty)
+        (ap (λ z. z.dirty) shows ∙ field_written (λ r. r.tally.dirty) (λ z. z.dirty) rs ns n m x y b bn (ap (λ z. z.dirty) (sym showed)) dirty)
 
     shown-written : shown_rows (set rs n x) ≡ set (shown_rows rs) n y
     shown-written =
@@ -89,7 +90,7 @@ module _ (rs : List Row) (n : ℕ) (x : Row) (b : n < length rs) (h : SameRow (r
     }
 
 abbrev pub dirty_row : Row → Bool → Row
-dirty_row r d = record r { dirty = d }
+dirty_row r d = record r { tally = marked_as r.tally d }
 
 abbrev pub text_row : Row → NodeText → Row
 text_row r t = record r { text = t }

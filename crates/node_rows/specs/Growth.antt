@@ -9,4 +9,4 @@ made x = new_node x.text x.span
 
 -- a row without links
 abbrev pub row_of : NewNode → Row
-row_of x = record { text = x.text; span = x.span; parent = None; first = None; last = None; before = None; after = None; count = 0; dirty = true }
+row_of x = record { text = x.text; span = x.span; parent = None; first = None; last = None; before = None; after = None; tally = record { count = 0; dirty = true } }

@@ -15,3 +15,4 @@ pub mod Fingers
 pub mod Ends
 pub mod Entries
 pub mod Packed
+pub mod Tally

@@ -10,8 +10,9 @@ pub mod links;
 pub mod marks;
 pub mod node_list;
 pub mod order;
-mod packed;
+pub mod packed;
 pub mod rows;
+mod tally;
 #[cfg(test)]
 mod tests;
 pub mod texts;

@@ -60,7 +60,7 @@ fn gap_from_end(rows: &Vec<Row>, p: u32, at: usize) -> (Link, Link)
     ensures after { result.1 ≡ start_of (drop at (listed rows.now.items (row_at rows.now.items p))) None }
 {
     let row = &rows[p as usize];
-    let count = row.count as usize;
+    let count = row.tally.count() as usize;
     if at <= count - at {
         gap_onward(rows, p, 0, at, (Link::none(), row.first))
     } else {
@@ -93,7 +93,7 @@ fn gap(rows: &Vec<Row>, p: u32, at: usize, finger: Option<Finger>) -> (Link, Lin
     ensures before { result.0 ≡ end_of None (take at (listed rows.now.items (row_at rows.now.items p))) }
     ensures after { result.1 ≡ start_of (drop at (listed rows.now.items (row_at rows.now.items p))) None }
 {
-    let left = rows[p as usize].count as usize - at;
+    let left = rows[p as usize].tally.count() as usize - at;
     match finger {
         Some(finger) if finger.parent == p && finger.place.abs_diff(at) < at.min(left) => {
             gap_from_finger(rows, p, at, finger)
@@ -156,7 +156,7 @@ fn join(rows: &mut Vec<Row>, p: u32, n: u32, before: Link, after: Link)
     requires node { n < length rows.old.items }
     requires before_in { IsWithin rows.old.items before }
     requires after_in { IsWithin rows.old.items after }
-    requires few { (row_at rows.old.items p).count < 67108865 }
+    requires few { (row_at rows.old.items p).tally.count < 67108865 }
     requires total { length rows.old.items ≤ 67108865 }
     ensures { rows.new.items ≡ joined_in rows.old.items p n before after }
 {
@@ -165,7 +165,7 @@ fn join(rows: &mut Vec<Row>, p: u32, n: u32, before: Link, after: Link)
     set_after(rows, before, p, link);
     set_before(rows, after, p, link);
     let row = &mut rows[p as usize];
-    row.count += 1;
+    row.tally.add_one();
 }
 
 // Makes n loose.
@@ -185,14 +185,14 @@ fn cut(rows: &mut Vec<Row>, p: u32, n: u32, before: Link, after: Link)
     requires node { n < length rows.old.items }
     requires before_in { IsWithin rows.old.items before }
     requires after_in { IsWithin rows.old.items after }
-    requires some { 0 < (row_at rows.old.items p).count }
+    requires some { 0 < (row_at rows.old.items p).tally.count }
     ensures { rows.new.items ≡ cut_from rows.old.items p n before after }
 {
     free(rows, n);
     set_after(rows, before, p, after);
     set_before(rows, after, p, before);
     let row = &mut rows[p as usize];
-    row.count -= 1;
+    row.tally.take_one();
 }
 
 impl Rows {
@@ -202,7 +202,7 @@ impl Rows {
         requires { n < length self.now }
         ensures { result ≡ slice_get (children_of self.now n) at }
     {
-        if at >= self.items[n as usize].count as usize {
+        if at >= self.items[n as usize].tally.count() as usize {
             return None;
         }
         gap(&self.items, n, at, self.finger).1.get()
@@ -262,7 +262,7 @@ impl Rows {
         let child = Finger {
             parent,
             node,
-            place: row.count as usize,
+            place: row.tally.count() as usize,
         };
         join(&mut self.items, parent, node, last, Link::none());
         self.finger = finger_with(self.finger, child, true);

@@ -11,7 +11,7 @@ impl Rows {
         ensures { self.new ≡ with_mark self.old n dirty }
     {
         let row = &mut self.items[n as usize];
-        row.dirty = dirty;
+        row.tally.set_dirty(dirty);
     }
 
     /// Makes a clean node and all its ancestors dirty, and leaves a dirty one. An ancestor may be dirty while one further

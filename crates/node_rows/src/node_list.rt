@@ -38,12 +38,25 @@ impl Model for NodeList {
     ghost invariant = { λ l. IsBuilt l.rows };
 }
 
+// Real sheets have more bytes than so many for each node: minified Bootstrap 5 has 27.
+const BYTES_A_NODE: usize = 16;
+
+// No rows, with room for those of a sheet of so many bytes, or else for one.
+fn roomy_rows(alloc: Global, bytes: usize) -> Result<Rows, AllocError>
+    ensures { IfOk result (λ rows. rows ≡ []) }
+{
+    match Rows::with_capacity(alloc, bytes / BYTES_A_NODE + 1) {
+        Ok(rows) => Ok(rows),
+        Err(_) => Rows::with_capacity(alloc, 1),
+    }
+}
+
 impl NodeList {
     /// The root alone. The only error is want of memory, as which a span counts whose start or end is above 4,294,967,294.
     pub fn new(alloc: Global, text: NodeText, span: Span) -> Result<NodeList, AllocError>
         ensures { IfOk result (λ list. list ≡ record { parent = 0; text = text; span = span } ∷ []) }
     {
-        let mut rows = Rows::with_capacity(alloc, 1)?;
+        let mut rows = roomy_rows(alloc, span.end)?;
         rows.append(NodeAt {
             parent: 0,
             text,

@@ -1,5 +1,5 @@
 // A node's number and a span, each of which may be absent, in less memory than an option takes.
-ghost use Rattle.std.specs.Prelude.{◌≡◌, ◌<◌, false, Some, None, MatchResult};
+ghost use Rattle.std.specs.Prelude.{◌≡◌, ◌<◌, true, false, Some, None, MatchResult};
 ghost use Rattle.node_rows.specs.Ends.{some_ended};
 ghost use Rattle.node_rows.specs.Packed.{is_narrow};
 
@@ -59,9 +59,10 @@ impl Link {
     }
 }
 
-// A span, or none, in eight bytes. The highest number of 32 bits as the start stands for none.
+/// A span, or none, in eight bytes. A clause sees the span.
+// The highest number of 32 bits as the start stands for none.
 #[derive(Drop)]
-pub(crate) struct PackedSpan {
+pub struct PackedSpan {
     start: u32,
     end: u32,
 }
@@ -79,10 +80,10 @@ impl Model for PackedSpan {
 const _: () = prove!(size_of::<PackedSpan>() == 8);
 
 impl PackedSpan {
-    // The span in eight bytes. One that doesn't fit counts as want of memory.
+    /// The span in eight bytes. One whose start or end is above 4,294,967,294 counts as want of memory.
     #[inline(always)]
-    pub(crate) fn new(span: Option<Span>) -> Result<PackedSpan, AllocError>
-        ensures { MatchResult result (λ packed. packed ≡ span) (λ _. is_narrow span ≡ false) }
+    pub fn new(span: Option<Span>) -> Result<PackedSpan, AllocError>
+        ensures { MatchResult result (λ packed. (packed ≡ span) × (is_narrow span ≡ true)) (λ _. is_narrow span ≡ false) }
     {
         match span {
             None => Ok(PackedSpan {
@@ -101,9 +102,9 @@ impl PackedSpan {
         }
     }
 
-    // The span, where there is one.
+    /// The span, where there is one.
     #[inline(always)]
-    pub(crate) fn get(&self) -> Option<Span>
+    pub fn get(&self) -> Option<Span>
         ensures { result ≡ self.now }
     {
         if self.start == u32::MAX {

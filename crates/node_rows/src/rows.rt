@@ -9,6 +9,7 @@ ghost use Rattle.node_rows.specs.Growth.{row_of};
 use crate::finger::Finger;
 use crate::node_list::NodeAt;
 use crate::packed::{Link, PackedSpan};
+use crate::tally::Tally;
 use css_text::lexer::Span;
 use css_tree::node::NodeText;
 use std::alloc::{AllocError, Global};
@@ -25,11 +26,10 @@ pub struct Row {
     pub(crate) last: Link,
     pub(crate) before: Link,
     pub(crate) after: Link,
-    pub(crate) count: u32,
-    pub(crate) dirty: bool,
+    pub(crate) tally: Tally,
 }
 
-const _: () = prove!(size_of::<Row>() == 192);
+const _: () = prove!(size_of::<Row>() == 184);
 
 // The row of a new node, which has no links.
 #[inline(always)]
@@ -44,8 +44,7 @@ pub(crate) fn loose_row(text: NodeText, span: PackedSpan) -> Row
         last: Link::none(),
         before: Link::none(),
         after: Link::none(),
-        count: 0,
-        dirty: true,
+        tally: Tally::new(0, true),
     }
 }
 
@@ -126,7 +125,7 @@ impl Rows {
         requires { n < length self.now }
         ensures { result ≡ is_dirty self.now n }
     {
-        self.items[n as usize].dirty
+        self.items[n as usize].tally.is_dirty()
     }
 
     /// How many children the node has, in constant time.
@@ -134,7 +133,7 @@ impl Rows {
         requires { n < length self.now }
         ensures { result ≡ length (children_of self.now n) }
     {
-        self.items[n as usize].count
+        self.items[n as usize].tally.count()
     }
 
     /// The node's first child, in constant time.

@@ -71,10 +71,10 @@ insertable ns n p at h =
 pub removable : (ns : List Node) (n : ℕ) → is_allowed ns (Remove n) ≡ true → (p : ℕ) × (parent_of ns n ≡ Some p)
 removable ns n h = is-held (parent_of ns n) h
 
-pub settable : (ns : List Node) (n : ℕ) (field : Field) (text : List ℕ) → is_allowed ns (Set n field text) ≡ true → (n < length ns) × (takes_field field (text_of ns n) ≡ true)
+pub settable : (ns : List Node) (n : ℕ) (field : Field) (text : List ℕ) → is_allowed ns (Set field n text) ≡ true → (n < length ns) × (takes_field field (text_of ns n) ≡ true)
 settable ns n field text h = let a = and_parts _ _ h in (ltb-true _ _ a.0, a.1)
 
-pub shapeable : (ns : List Node) (n : ℕ) (raw : Raw) (text : List ℕ) → is_allowed ns (SetRaw n raw text) ≡ true → (n < length ns) × (takes_raw raw (text_of ns n) ≡ true)
+pub shapeable : (ns : List Node) (n : ℕ) (raw : Raw) (text : List ℕ) → is_allowed ns (SetRaw raw n text) ≡ true → (n < length ns) × (takes_raw raw (text_of ns n) ≡ true)
 shapeable ns n raw text h = let a = and_parts _ _ h in (ltb-true _ _ a.0, a.1)
 
 pub makeable : (ns : List Node) (n : ℕ) (text : NodeText) (span : Option Span) → is_allowed ns (New n text span) ≡ true → (n < 5000000) × (kind_of text ≢ K.Root)

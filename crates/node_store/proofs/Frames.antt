@@ -158,8 +158,8 @@ pub news-append : (es fs : List Edit) → news (es ++ fs) ≡ news es ++ news fs
 news-append [] fs = refl
 news-append (New n t s ∷ es) fs = ap (λ l. new_node t s ∷ l) (news-append es fs)
 news-append (Insert n p at ∷ es) fs = news-append es fs
-news-append (Set n x t ∷ es) fs = news-append es fs
-news-append (SetRaw n x t ∷ es) fs = news-append es fs
+news-append (Set x n t ∷ es) fs = news-append es fs
+news-append (SetRaw x n t ∷ es) fs = news-append es fs
 news-append (Remove n ∷ es) fs = news-append es fs
 
 news_trees : (ns : List Node) (t : NumberTrees) (p at next : ℕ) → length (news (copied_trees ns t p at next)) ≡ length (numbers t)

@@ -152,8 +152,8 @@ module _ (text : List ℕ) (ss : List (Option Seat)) where
       let e = graft-apply ns n p at g in
       let d = edited-put text ns ss k p at n ms a (sym e) in
       next_step ns ms (Insert n p at) es d e refl a (and_true _ _ a refl) (planned es ms d.stored h.1 s)
-  planned (Set n x t ∷ es) ns k h s = absurd h
-  planned (SetRaw n x t ∷ es) ns k h s = absurd h
+  planned (Set x n t ∷ es) ns k h s = absurd h
+  planned (SetRaw x n t ∷ es) ns k h s = absurd h
   planned (Remove n ∷ es) ns k h s = absurd h
 
 -- how many nodes a plan leaves
@@ -166,8 +166,8 @@ plan-few (New n t span ∷ es) ns h b =
 plan-few (Insert n p at ∷ es) ns h b =
     let l : length (linked ns p at n) ≡ length ns = length-set _ _ _ ∙ length-set _ _ _ in
     let r = plan-few es (linked ns p at n) h.1 (omega arith) in omega arith
-plan-few (Set n x t ∷ es) ns h b = absurd h
-plan-few (SetRaw n x t ∷ es) ns h b = absurd h
+plan-few (Set x n t ∷ es) ns h b = absurd h
+plan-few (SetRaw x n t ∷ es) ns h b = absurd h
 plan-few (Remove n ∷ es) ns h b = absurd h
 
 set_more : (xs zs : List Node) (i : ℕ) (x : Node) → i < length xs → set (xs ++ zs) i x ≡ set xs i x ++ zs
@@ -211,8 +211,8 @@ graft-more ns zs n p at g =
 pub turn : (ns : List Node) (e : Edit) (es : List Edit) → IsPlan ns (e ∷ es) → IsGraft (ns ++ news (e ∷ es)) e × (grafted (ns ++ news (e ∷ es)) e ≡ grow ns e ++ news es) × IsPlan (grow ns e) es
 turn ns (New n t span) es h = (tt, sym (append_assoc ns (new_node t span ∷ []) (news es)), h.3)
 turn ns (Insert n p at) es h = (graft-more ns (news es) n p at h.0, linked_more ns (news es) p at n h.0.parent_in h.0.node_in, h.1)
-turn ns (Set n x t) es h = absurd h
-turn ns (SetRaw n x t) es h = absurd h
+turn ns (Set x n t) es h = absurd h
+turn ns (SetRaw x n t) es h = absurd h
 turn ns (Remove n) es h = absurd h
 
 pub grow_all-push : (es : List Edit) (e : Edit) (ns : List Node) → grow_all ns (es ++ e ∷ []) ≡ grow (grow_all ns es) e

@@ -124,22 +124,22 @@ module _ (text : List ℕ) (ns : List Node) (ss : List (Option Seat)) (k : IsSto
     spans = λ n. t.spans n ∙ h.spans n;
   }
 
-  pub edited-set : (n : ℕ) (field : Field) (t : List ℕ) (ls ms : List Node) → is_allowed ns (Set n field t) ≡ true → ls ≡ with_text ns n (with_field field t (text_of ns n)) → ms ≡ mark ls n → Edited text ns ms ss ss (Set n field t) × (ms ≡ apply ns (Set n field t))
+  pub edited-set : (n : ℕ) (field : Field) (t : List ℕ) (ls ms : List Node) → is_allowed ns (Set field n t) ≡ true → ls ≡ with_text ns n (with_field field t (text_of ns n)) → ms ≡ mark ls n → Edited text ns ms ss ss (Set field n t) × (ms ≡ apply ns (Set field n t))
   edited-set n field t ls ms a d e =
       let us : List Node = with_text ns n (with_field field t (text_of ns n)) in
       let i : ms ≡ mark us n = e ∙ ap (λ x. mark x n) d in
       let m = marked-same us n in
       let shape = SameShape-text ns n (with_field field t (text_of ns n)) (with_field-kind field t (text_of ns n)) (λ h. subst IsSome (sym (with_field-block field t (text_of ns n))) h) (settable ns n field t a).0 in (
-        subst (λ x. Edited text ns x ss ss (Set n field t)) (sym i)
-            (text_all (mark us n) (Set n field t) (shape_marked us (mark us n) shape m.texts m.links.same_length) (SameLinks-then ns us (mark us n) (SameLinks-text ns n (with_field field t (text_of ns n))) m.links) refl),
+        subst (λ x. Edited text ns x ss ss (Set field n t)) (sym i)
+            (text_all (mark us n) (Set field n t) (shape_marked us (mark us n) shape m.texts m.links.same_length) (SameLinks-then ns us (mark us n) (SameLinks-text ns n (with_field field t (text_of ns n))) m.links) refl),
         i,
       )
 
-  pub edited-shaped : (n : ℕ) (raw : Raw) (t : List ℕ) (ms : List Node) → is_allowed ns (SetRaw n raw t) ≡ true → ms ≡ with_text ns n (with_raw raw t (text_of ns n)) → Edited text ns ms ss ss (SetRaw n raw t)
+  pub edited-shaped : (n : ℕ) (raw : Raw) (t : List ℕ) (ms : List Node) → is_allowed ns (SetRaw raw n t) ≡ true → ms ≡ with_text ns n (with_raw raw t (text_of ns n)) → Edited text ns ms ss ss (SetRaw raw n t)
   edited-shaped n raw t ms a e =
       let us : List Node = with_text ns n (with_raw raw t (text_of ns n)) in
       let shape = SameShape-text ns n (with_raw raw t (text_of ns n)) (with_raw-kind raw t (text_of ns n)) (with_raw-block raw t (text_of ns n)) (shapeable ns n raw t a).0 in
-      subst (λ x. Edited text ns x ss ss (SetRaw n raw t)) (sym e) (text_all us (SetRaw n raw t) shape (SameLinks-text ns n (with_raw raw t (text_of ns n))) refl)
+      subst (λ x. Edited text ns x ss ss (SetRaw raw n t)) (sym e) (text_all us (SetRaw raw n t) shape (SameLinks-text ns n (with_raw raw t (text_of ns n))) refl)
 
   -- one more node
   module _ (x : Node) (loose : x.parent ≡ None) (empty : x.children ≡ []) where

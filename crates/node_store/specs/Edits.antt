@@ -28,16 +28,16 @@ is_loose (Some p) = false
 
 -- The condition of the edit is met.
 abbrev pub is_allowed : List Node → Edit → Bool
-is_allowed ns (Set n field text) = nat_lt n (length ns) && takes_field field (text_of ns n)
-is_allowed ns (SetRaw n raw text) = nat_lt n (length ns) && takes_raw raw (text_of ns n)
+is_allowed ns (Set field n text) = nat_lt n (length ns) && takes_field field (text_of ns n)
+is_allowed ns (SetRaw raw n text) = nat_lt n (length ns) && takes_raw raw (text_of ns n)
 is_allowed ns (New n text span) = nat_eq n (length ns) && (nat_lt n 5000000 && not (is_root text))
 is_allowed ns (Insert n p at) = nat_lt n (length ns) && (nat_lt p (length ns) && (not (nat_eq n 0) && (is_loose (parent_of ns n) && (not (holds ns n p) && (is_some (block_of (text_of ns p)) && nat_le at (length (children_of ns p)))))))
 is_allowed ns (Remove n) = not (is_loose (parent_of ns n))
 
 -- A field or raw that is there with that text already makes no edit.
 abbrev pub changes : List Node → Edit → Bool
-changes ns (Set n field text) = not (has_field field text (text_of ns n))
-changes ns (SetRaw n raw text) = not (has_raw raw text (text_of ns n))
+changes ns (Set field n text) = not (has_field field text (text_of ns n))
+changes ns (SetRaw raw n text) = not (has_raw raw text (text_of ns n))
 changes ns _ = true
 
 -- the edit may be made, and changes something
@@ -50,8 +50,8 @@ removed_from ns n (Some p) = mark (unlinked ns p (place_of ns p n) n) p
 
 -- the nodes after an edit
 abbrev pub apply : List Node → Edit → List Node
-apply ns (Set n field text) = mark (with_text ns n (with_field field text (text_of ns n))) n
-apply ns (SetRaw n raw text) = with_text ns n (with_raw raw text (text_of ns n))
+apply ns (Set field n text) = mark (with_text ns n (with_field field text (text_of ns n))) n
+apply ns (SetRaw raw n text) = with_text ns n (with_raw raw text (text_of ns n))
 apply ns (New n text span) = ns ++ new_node text span ∷ []
 apply ns (Insert n p at) = mark (dirtied (linked ns p at n) n) p
 apply ns (Remove n) = removed_from ns n (parent_of ns n)
@@ -116,8 +116,8 @@ noted f item = record f { nodes = entered f.nodes item; log = f.log ++ item ∷ 
 
 -- The edit touches m: it sets a field of m, changes m's children, or puts in a tree that holds m.
 abbrev pub touches : List Node → Edit → ℕ → Bool
-touches ns (Set n field text) m = nat_eq m n
-touches ns (SetRaw n raw text) m = false
+touches ns (Set field n text) m = nat_eq m n
+touches ns (SetRaw raw n text) m = false
 touches ns (New n text span) m = false
 touches ns (Insert n p at) m = nat_eq m p || holds ns n m
 touches ns (Remove n) m = is_number (parent_of ns n) m

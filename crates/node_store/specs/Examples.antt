@@ -53,11 +53,11 @@ Allowed = (can nodes (Insert 1 3 0) ≡ false)
 
 -- A selector that is there already makes no edit, and a rule has no property.
 abbrev pub Changing : Type 0
-Changing = (can nodes (Set 1 F.Selector (codes "x")) ≡ true)
-    × (can nodes (Set 1 F.Selector (codes "a")) ≡ false)
-    × (can nodes (Set 1 F.Prop (codes "x")) ≡ false)
-    × (edited_where forest (Set 1 F.Selector (codes "a")) ≡ forest)
-    × ((edited_where forest (Set 1 F.Selector (codes "x"))).log ≡ I.Edit (Set 1 F.Selector (codes "x")) ∷ [])
+Changing = (can nodes (Set F.Selector 1 (codes "x")) ≡ true)
+    × (can nodes (Set F.Selector 1 (codes "a")) ≡ false)
+    × (can nodes (Set F.Prop 1 (codes "x")) ≡ false)
+    × (edited_where forest (Set F.Selector 1 (codes "a")) ≡ forest)
+    × ((edited_where forest (Set F.Selector 1 (codes "x"))).log ≡ I.Edit (Set F.Selector 1 (codes "x")) ∷ [])
 
 -- how many children of the root are passed after an edit, where one was passed before it; those of another node stay
 abbrev pub Moved : Type 0
@@ -91,15 +91,15 @@ Reads = (read forest 2 (λ x. x.parent) ≡ Ok (Some 1))
 
 -- An edit of children touches their parent, and what is put in as well; a raw touches nothing.
 abbrev pub Touched : Type 0
-Touched = (map (touches nodes (Set 1 F.Selector (codes "x"))) (0 ∷ 1 ∷ 2 ∷ 3 ∷ []) ≡ false ∷ true ∷ false ∷ false ∷ [])
-    × (map (touches nodes (SetRaw 1 R.Between (codes " "))) (0 ∷ 1 ∷ 2 ∷ 3 ∷ []) ≡ false ∷ false ∷ false ∷ false ∷ [])
+Touched = (map (touches nodes (Set F.Selector 1 (codes "x"))) (0 ∷ 1 ∷ 2 ∷ 3 ∷ []) ≡ false ∷ true ∷ false ∷ false ∷ [])
+    × (map (touches nodes (SetRaw R.Between 1 (codes " "))) (0 ∷ 1 ∷ 2 ∷ 3 ∷ []) ≡ false ∷ false ∷ false ∷ false ∷ [])
     × (map (touches nodes (Remove 1)) (0 ∷ 1 ∷ 2 ∷ 3 ∷ []) ≡ true ∷ false ∷ false ∷ false ∷ [])
     × (map (touches taken (Insert 1 3 0)) (0 ∷ 1 ∷ 2 ∷ 3 ∷ []) ≡ false ∷ true ∷ true ∷ true ∷ [])
 
 -- The marks after an edit: a node of which a field is set is dirty, and its ancestors; a raw makes none; a removal marks the container and its
 -- ancestors; an entry cleans its node.
 abbrev pub Marked : Type 0
-Marked = (map (λ x. x.dirty) (apply nodes (Set 2 F.Selector (codes "x"))) ≡ true ∷ true ∷ true ∷ false ∷ [])
-    × (map (λ x. x.dirty) (apply nodes (SetRaw 2 R.Between (codes " "))) ≡ false ∷ false ∷ false ∷ false ∷ [])
+Marked = (map (λ x. x.dirty) (apply nodes (Set F.Selector 2 (codes "x"))) ≡ true ∷ true ∷ true ∷ false ∷ [])
+    × (map (λ x. x.dirty) (apply nodes (SetRaw R.Between 2 (codes " "))) ≡ false ∷ false ∷ false ∷ false ∷ [])
     × (map (λ x. x.dirty) (apply nodes (Remove 2)) ≡ true ∷ true ∷ false ∷ false ∷ [])
     × (map (λ x. x.dirty) (noted (record forest { nodes = with_mark nodes 3 true }) (I.Enter 3)).nodes ≡ false ∷ false ∷ false ∷ false ∷ [])

@@ -21,6 +21,7 @@ use crate::item::{Edit, Item};
 use crate::work::Work;
 use css_text::stop::Stop;
 use node_rows::growth::NewNode;
+use node_rows::packed::PackedSpan;
 use node_rows::rows::Rows;
 use std::alloc::{AllocError, Global};
 
@@ -62,13 +63,14 @@ fn plan_node(
     ensures nodes { OnOk result (map made plan.new.nodes.items ≡ map made plan.old.nodes.items ++ new_node (text_of rows.now node) (span_of rows.now node) ∷ []) }
 {
     let span = rows.span(node);
+    let packed = PackedSpan::new(span)?;
     let text = copy_node(alloc, rows.text(node))?;
     plan.nodes.push(NewNode { text, span })?;
     let text = BoxedText::new(alloc, copy_node(alloc, rows.text(node))?)?;
     plan.edits.push(Edit::New {
         node: NodeId::new(number),
         text,
-        span,
+        span: packed,
     })?;
     Ok(())
 }

@@ -16,6 +16,7 @@ use crate::work::Work;
 use css_text::lexer::Span;
 use css_text::txt::Txt;
 use css_tree::node::{Field, NodeText, Raw};
+use node_rows::packed::PackedSpan;
 use node_rows::rows::Rows;
 use node_rows::texts::{Written, has_field, has_raw};
 use std::alloc::AllocError;
@@ -68,13 +69,14 @@ impl Work {
             (λ n. (n ≡ length self.old.nodes) × (unreserved self.new ≡ edited (unreserved self.old) (E.New (length self.old.nodes) text span)))
             (λ _. unreserved self.new ≡ unreserved self.old) }
     {
+        let packed = PackedSpan::new(span)?;
         let copy = BoxedText::new(self.alloc, copy_node(self.alloc, &text)?)?;
         self.log.reserve(1)?;
         let node = NodeId::new(self.rows.add(text, span)?);
         self.log.push_reserved(Item::Edit(Edit::New {
             node,
             text: copy,
-            span,
+            span: packed,
         }));
         Ok(node)
     }
@@ -129,9 +131,9 @@ impl Work {
     /// without their comments too. Where the field has that text already, as it is written or without comments, nothing
     /// is done and nothing is logged.
     pub fn set_field(&mut self, node: NodeId, field: Field, text: &str) -> Result<(), AllocError>
-        requires { is_allowed self.old.nodes (E.Set node field (chars text.now)) ≡ true }
+        requires { is_allowed self.old.nodes (E.Set field node (chars text.now)) ≡ true }
         ensures { MatchResult result
-            (λ _. unreserved self.new ≡ edited_where (unreserved self.old) (E.Set node field (chars text.now)))
+            (λ _. unreserved self.new ≡ edited_where (unreserved self.old) (E.Set field node (chars text.now)))
             (λ _. unreserved self.new ≡ unreserved self.old) }
     {
         let n = node.number();
@@ -144,8 +146,8 @@ impl Work {
         self.rows.set_field(n, field, written);
         self.rows.mark(n);
         self.log.push_reserved(Item::Edit(Edit::Set {
-            node,
             field,
+            node,
             text: logged,
         }));
         Ok(())
@@ -154,9 +156,9 @@ impl Work {
     /// Gives the node another raw, which marks nothing. Where the raw is there with that text already, nothing is done
     /// and nothing is logged.
     pub fn set_shape(&mut self, node: NodeId, raw: Raw, text: &str) -> Result<(), AllocError>
-        requires { is_allowed self.old.nodes (E.SetRaw node raw (chars text.now)) ≡ true }
+        requires { is_allowed self.old.nodes (E.SetRaw raw node (chars text.now)) ≡ true }
         ensures { MatchResult result
-            (λ _. unreserved self.new ≡ edited_where (unreserved self.old) (E.SetRaw node raw (chars text.now)))
+            (λ _. unreserved self.new ≡ edited_where (unreserved self.old) (E.SetRaw raw node (chars text.now)))
             (λ _. unreserved self.new ≡ unreserved self.old) }
     {
         let n = node.number();
@@ -168,8 +170,8 @@ impl Work {
         self.log.reserve(1)?;
         self.rows.set_raw(n, raw, written);
         self.log.push_reserved(Item::Edit(Edit::SetRaw {
-            node,
             raw,
+            node,
             text: logged,
         }));
         Ok(())

@@ -206,6 +206,33 @@ fn copies(rt: HostRuntime) -> Result<(), Fail> {
 }
 
 #[test]
+fn logs_set_texts(rt: HostRuntime) -> Result<(), Fail> {
+    let mut work = empty_sheet(rt.alloc())?;
+    make(&mut work, rule(rt.alloc(), "a")?)?;
+    set(&mut work, id(1), Field::Selector, "b")?;
+    shape(&mut work, id(1), Raw::Between, " ")?;
+    match work.log() {
+        [
+            _,
+            Item::Edit(Edit::Set { field, node, text }),
+            Item::Edit(
+                Edit::SetRaw {
+                    raw,
+                    node: shaped,
+                    ..
+                },
+            ),
+        ] => {
+            assert_eq!(rt; (*field, *node), (Field::Selector, id(1)));
+            assert_eq!(rt; text.as_str(), "b");
+            assert_eq!(rt; (*raw, *shaped), (Raw::Between, id(1)));
+        }
+        _ => assert!(rt; false),
+    }
+    Ok(())
+}
+
+#[test]
 fn logs_a_new_node(rt: HostRuntime) -> Result<(), Fail> {
     let mut work = empty_sheet(rt.alloc())?;
     make(&mut work, comment(rt.alloc(), "k")?)?;
@@ -213,7 +240,7 @@ fn logs_a_new_node(rt: HostRuntime) -> Result<(), Fail> {
         [Item::Edit(Edit::New { node, text, span })] => {
             assert_eq!(rt; *node, id(1));
             assert_eq!(rt; parts::field(text.as_text(), Field::Text), Some("k"));
-            assert_eq!(rt; *span, None);
+            assert_eq!(rt; span.get(), None);
         }
         _ => assert!(rt; false),
     }

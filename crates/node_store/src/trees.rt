@@ -111,7 +111,7 @@ pub fn take(work: &mut Work, node: NodeId) -> Result<bool, AllocError> {
 }
 
 fn may_set(work: &Work, node: NodeId, field: Field) -> bool
-    ensures { result ≡ true → (t : List ℕ) → is_allowed work.now.nodes (E.Set node field t) ≡ true }
+    ensures { result ≡ true → (t : List ℕ) → is_allowed work.now.nodes (E.Set field node t) ≡ true }
 {
     match work.node_text(node) {
         Ok(text) => parts::field(text, field).is_some(),
@@ -129,7 +129,7 @@ pub fn set(work: &mut Work, node: NodeId, field: Field, text: &str) -> Result<bo
 }
 
 fn may_shape(work: &Work, node: NodeId, raw: Raw) -> bool
-    ensures { result ≡ true → (t : List ℕ) → is_allowed work.now.nodes (E.SetRaw node raw t) ≡ true }
+    ensures { result ≡ true → (t : List ℕ) → is_allowed work.now.nodes (E.SetRaw raw node t) ≡ true }
 {
     match work.node_text(node) {
         Ok(text) => parts::raw(text, raw).is_ok(),

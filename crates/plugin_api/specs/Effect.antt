@@ -87,7 +87,7 @@ changing ns es = filter (changes ns) es
 
 -- a declaration below a node, with a short value
 abbrev pub IsShortened : List Node → ℕ → Event → NodeText → Option ℕ → List Edit → Type 0
-IsShortened ns n E.Declaration (Declaration before prop between val important important_raw tail) (Some p) es = (short : List ℕ) × IsShort val.source short × (es ≡ changing ns (Set n F.Value short ∷ []))
+IsShortened ns n E.Declaration (Declaration before prop between val important important_raw tail) (Some p) es = (short : List ℕ) × IsShort val.source short × (es ≡ changing ns (Set F.Value n short ∷ []))
 IsShortened ns n _ _ _ es = es ≡ []
 
 -- what may stand behind the `&` of a rule that can be moved: a space or one of : . # [ > + ~
@@ -117,7 +117,7 @@ own_selector _ = []
 
 -- the child of the rule n goes out directly behind it
 abbrev pub moved_out : List Node → ℕ → ℕ → List ℕ → ℕ → List Edit
-moved_out ns n p selector child = changing ns (Set child F.Selector (selector ++ own_selector (text_of ns child)) ∷ []) ++ Remove child ∷ Insert child p (suc (place_of ns p n)) ∷ []
+moved_out ns n p selector child = changing ns (Set F.Selector child (selector ++ own_selector (text_of ns child)) ∷ []) ++ Remove child ∷ Insert child p (suc (place_of ns p n)) ∷ []
 
 abbrev pub is_single_selector : List ℕ → Bool
 is_single_selector [] = false

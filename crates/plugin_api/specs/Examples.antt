@@ -61,7 +61,7 @@ Empty = IsEffect DropEmpty (nested (codes "a") (codes "b")) (at E.RuleExit 2) (R
 
 -- `a{&:b{}}` becomes `a{}a:b{}`. A rule below a list of selectors stays, and so does one without `&` at its start.
 abbrev pub Unnested : Type 0
-Unnested = IsEffect Unnest (nested (codes "a") (codes "&:b")) (at E.RuleExit 1) (Set 2 F.Selector (codes "a:b") ∷ Remove 2 ∷ Insert 2 0 1 ∷ [])
+Unnested = IsEffect Unnest (nested (codes "a") (codes "&:b")) (at E.RuleExit 1) (Set F.Selector 2 (codes "a:b") ∷ Remove 2 ∷ Insert 2 0 1 ∷ [])
     × IsEffect Unnest (nested (codes "a,c") (codes "&:b")) (at E.RuleExit 1) []
     × IsEffect Unnest (nested (codes "a") (codes "b &")) (at E.RuleExit 1) []
     × IsEffect Unnest (nested (codes "a") (codes "&b")) (at E.RuleExit 1) []

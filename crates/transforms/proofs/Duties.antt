@@ -40,7 +40,7 @@ one_text s x y h g = h.text ∙ (ap (λ p. written (shortened p)) (one_value s h
 -- there is one list of edits
 pub one-short : (ns : List Node) (n : ℕ) (ev : Event) (t : NodeText) (o : Option ℕ) (a b : List Edit) → IsShortened ns n ev t o a → IsShortened ns n ev t o b → a ≡ b
 one-short ns n E.Declaration (Declaration before prop between val important important_raw tail) (Some p) a b h g =
-    h.2 ∙ (ap (λ s. changing ns (Set n F.Value s ∷ [])) (one_text val.source h.0 g.0 h.1 g.1) ∙ sym g.2)
+    h.2 ∙ (ap (λ s. changing ns (Set F.Value n s ∷ [])) (one_text val.source h.0 g.0 h.1 g.1) ∙ sym g.2)
 one-short ns n _ _ _ a b h g = h ∙ sym g
 
 unnested-is : (ns : List Node) (n p : ℕ) (ev : Event) (t : NodeText) → unnests ev t ≡ true

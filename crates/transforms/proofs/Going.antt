@@ -49,17 +49,17 @@ either P true e h g = h
 either P false e h g = g
 
 -- another selector leaves the links, and the texts of other nodes
-pub selector-links : (ns : List Node) (c : ℕ) (t : List ℕ) → SameLinks ns (apply_all ns (changing ns (Set c F.Selector t ∷ [])))
+pub selector-links : (ns : List Node) (c : ℕ) (t : List ℕ) → SameLinks ns (apply_all ns (changing ns (Set F.Selector c t ∷ [])))
 selector-links ns c t =
     let x : NodeText = with_field F.Selector t (text_of ns c) in
     let us : List Node = with_text ns c x in
-    either (λ es. SameLinks ns (apply_all ns es)) (changes ns (Set c F.Selector t)) (Set c F.Selector t) (SameLinks-then ns us (mark us c) (SameLinks-text ns c x) (marked-same us c).links) (SameLinks-self ns)
+    either (λ es. SameLinks ns (apply_all ns es)) (changes ns (Set F.Selector c t)) (Set F.Selector c t) (SameLinks-then ns us (mark us c) (SameLinks-text ns c x) (marked-same us c).links) (SameLinks-self ns)
 
-selector-texts : (ns : List Node) (c : ℕ) (t : List ℕ) (m : ℕ) → m ≢ c → text_of (apply_all ns (changing ns (Set c F.Selector t ∷ []))) m ≡ text_of ns m
+selector-texts : (ns : List Node) (c : ℕ) (t : List ℕ) (m : ℕ) → m ≢ c → text_of (apply_all ns (changing ns (Set F.Selector c t ∷ []))) m ≡ text_of ns m
 selector-texts ns c t m d =
     let x : NodeText = with_field F.Selector t (text_of ns c) in
     let us : List Node = with_text ns c x in
-    either (λ es. text_of (apply_all ns es) m ≡ text_of ns m) (changes ns (Set c F.Selector t)) (Set c F.Selector t) ((marked-same us c).texts.texts m ∙ text-other ns c x m d) refl
+    either (λ es. text_of (apply_all ns es) m ≡ text_of ns m) (changes ns (Set F.Selector c t)) (Set F.Selector c t) ((marked-same us c).texts.texts m ∙ text-other ns c x m d) refl
 
 -- a child of the rule went out, and the rest stays
 record Stays (ns ms : List Node) (rule c p : ℕ) : Type 0 where
@@ -92,7 +92,7 @@ moved-stays ns rule c p s e g =
 stays-out : (ns : List Node) (rule c p : ℕ) (sel : List ℕ) → IsSound ns → parent_of ns c ≡ Some rule → parent_of ns rule ≡ Some p → Stays ns (apply_all ns (moved_out ns rule p sel c)) rule c p
 stays-out ns rule c p sel s e g =
     let t : List ℕ = sel ++ own_selector (text_of ns c) in
-    let es : List Edit = changing ns (Set c F.Selector t ∷ []) in
+    let es : List Edit = changing ns (Set F.Selector c t ∷ []) in
     let ls : List Node = apply_all ns es in
     let l = selector-links ns c t in
     let place : place_of ls p rule ≡ place_of ns p rule = ap (position_or_len (nat_eq rule)) (l.lists p) in
@@ -187,7 +187,7 @@ last-there c xs = omega (arith, count-last c c xs, count-one c)
 
 out-same : (ns ms : List Node) (rule p c : ℕ) (x y : NodeText) → x ≡ y → text_of ms c ≡ text_of ns c → place_of ms p rule ≡ place_of ns p rule → moved_out ms rule p (selector_of x) c ≡ moved_out ns rule p (selector_of y) c
 out-same ns ms rule p c x y e f g =
-    let es : List ℕ → NodeText → ℕ → List Edit = λ sel z i. (if not (has_field F.Selector (sel ++ own_selector z) z) then Set c F.Selector (sel ++ own_selector z) ∷ [] else []) ++ Remove c ∷ Insert c p (suc i) ∷ [] in
+    let es : List ℕ → NodeText → ℕ → List Edit = λ sel z i. (if not (has_field F.Selector (sel ++ own_selector z) z) then Set F.Selector c (sel ++ own_selector z) ∷ [] else []) ++ Remove c ∷ Insert c p (suc i) ∷ [] in
     ap (λ z. es (selector_of z) (text_of ms c) (place_of ms p rule)) e ∙ (ap (λ z. es (selector_of y) z (place_of ms p rule)) f ∙ ap (λ i. es (selector_of y) (text_of ns c) i) g)
 
 module _ (old now : Forest) (rule p c : ℕ) (xs : List ℕ) (g : Going old now rule p (xs ++ c ∷ [])) where

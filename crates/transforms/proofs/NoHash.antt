@@ -82,8 +82,8 @@ own_short s e =
     let v = some_value s in
     record { parts = v.0; are = v.1; text = sym (written_same v.0 (ap (has 35) v.1.text ∙ e) ∙ v.1.text) }
 
-unchanged : (ns : List Node) (n : ℕ) (s : List ℕ) (t : NodeText) → text_of ns n ≡ t → has_field F.Value s t ≡ true → changing ns (Set n F.Value s ∷ []) ≡ []
-unchanged ns n s t e h = let k : changes ns (Set n F.Value s) ≡ false = ap (λ x. not (has_field F.Value s x)) e ∙ ap not h in rw k refl
+unchanged : (ns : List Node) (n : ℕ) (s : List ℕ) (t : NodeText) → text_of ns n ≡ t → has_field F.Value s t ≡ true → changing ns (Set F.Value n s ∷ []) ≡ []
+unchanged ns n s t e h = let k : changes ns (Set F.Value n s) ≡ false = ap (λ x. not (has_field F.Value s x)) e ∙ ap not h in rw k refl
 
 -- a value without a `#` that has no comments asks for no edit
 pub stays : (ns : List Node) (n : ℕ) (ev : Event) (t : NodeText) (o : Option ℕ) (v : Source) → text_of ns n ≡ t → value_at ev t ≡ Some v

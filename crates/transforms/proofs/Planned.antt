@@ -73,9 +73,9 @@ changing-one : (ns : List Node) (e : Edit) (b : Bool) → changes ns e ≡ b →
 changing-one ns e true h = rw h refl
 changing-one ns e false h = rw h refl
 
-pub setting-plan : (ns : List Node) (n : ℕ) (field : Field) (t : List ℕ) → IsSome (parent_of ns n) → takes_field field (text_of ns n) ≡ true → setting ns n field t ≡ Ok (changing ns (Set n field t ∷ []))
+pub setting-plan : (ns : List Node) (n : ℕ) (field : Field) (t : List ℕ) → IsSome (parent_of ns n) → takes_field field (text_of ns n) ≡ true → setting ns n field t ≡ Ok (changing ns (Set field n t ∷ []))
 setting-plan ns n field t h k =
-    let e : Edit = Set n field t in
+    let e : Edit = Set field n t in
     let es : List Edit = where_changing ns e in
     let p = some_of (parent_of ns n) h in
     let r1 : List (Bool × TreeFault) = (not (takes_field field (text_of ns n)), WrongKind) ∷ [] in

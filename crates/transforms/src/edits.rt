@@ -47,7 +47,7 @@ pub(crate) fn take_out(work: &mut Work, n: NodeId) -> Result<(), AllocError>
 pub(crate) fn set_value(work: &mut Work, n: NodeId, text: &str) -> Result<(), AllocError>
     requires parent { IsSome (parent_of work.old.nodes n) }
     requires kind { takes_field F.Value (text_of work.old.nodes n) ≡ true }
-    ensures { MakesFront work.old work.new (changing work.old.nodes (E.Set n F.Value (chars text.now) ∷ [])) result }
+    ensures { MakesFront work.old work.new (changing work.old.nodes (E.Set F.Value n (chars text.now) ∷ [])) result }
 {
     unrefused(setting::set_value(work, n, text))
 }
@@ -56,7 +56,7 @@ pub(crate) fn set_value(work: &mut Work, n: NodeId, text: &str) -> Result<(), Al
 pub(crate) fn set_selector(work: &mut Work, n: NodeId, text: &str) -> Result<(), AllocError>
     requires parent { IsSome (parent_of work.old.nodes n) }
     requires kind { takes_field F.Selector (text_of work.old.nodes n) ≡ true }
-    ensures { MakesFront work.old work.new (changing work.old.nodes (E.Set n F.Selector (chars text.now) ∷ [])) result }
+    ensures { MakesFront work.old work.new (changing work.old.nodes (E.Set F.Selector n (chars text.now) ∷ [])) result }
 {
     unrefused(setting::set_selector(work, n, text))
 }

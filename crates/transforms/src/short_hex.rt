@@ -133,7 +133,7 @@ fn short_value(
 ) -> Result<Option<Txt>, AllocError>
     ensures effect { IfOk result (λ o. MatchOption o
         (IsEffect D.ShortHex work.now.nodes (record { event = event; node = node }) [])
-        (λ t. IsEffect D.ShortHex work.now.nodes (record { event = event; node = node }) (changing work.now.nodes (E.Set node F.Value t ∷ [])))) }
+        (λ t. IsEffect D.ShortHex work.now.nodes (record { event = event; node = node }) (changing work.now.nodes (E.Set F.Value node t ∷ [])))) }
     ensures kind { IfOk result (λ o. IsSome o → takes_field F.Value (text_of work.now.nodes node) ≡ true) }
     ensures parent { IfOk result (λ o. IsSome o → IsSome (parent_of work.now.nodes node)) }
 {

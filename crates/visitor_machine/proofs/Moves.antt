@@ -289,10 +289,10 @@ key_with_raw R.Semicolon t (Comment before left text right) = refl
 
 -- an edit that meets its condition
 pub changed : (ns : List Node) (e : Edit) → IsSound ns → 0 < length ns → can ns e ≡ true → Changed ns (apply ns e) (touches ns e) (moved ns e)
-changed ns (Set n field t) s z h =
+changed ns (Set field n t) s z h =
     let a = and_parts (nat_lt n (length ns) && takes_field field (text_of ns n)) _ h in
     changed_set ns n _ s (ltb-true n (length ns) (and_parts (nat_lt n (length ns)) _ a.0).0)
-changed ns (SetRaw n raw t) s z h = changed_raw ns n _ s z (kind_with_raw raw t (text_of ns n)) (key_with_raw raw t (text_of ns n))
+changed ns (SetRaw raw n t) s z h = changed_raw ns n _ s z (kind_with_raw raw t (text_of ns n)) (key_with_raw raw t (text_of ns n))
 changed ns (New n t span) s z h =
     let a = and_parts (is_allowed ns (New n t span)) _ h in
     let b = and_parts (nat_eq n (length ns)) _ a.0 in

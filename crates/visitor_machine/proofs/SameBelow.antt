@@ -123,8 +123,8 @@ module _ (ns : List Node) (n : ℕ) (s : IsSound ns) (b : n < length ns) where
       then_marks n ns ls (mark ls p) (relinked_below p c (remove (children_of ns p) (place_of ns p c)) None h) (marked ls p)
 
   pub edit_below : (e : Edit) → is_within ns n (altered ns e) ≡ false → SameBelow n ns (apply ns e)
-  edit_below (Set k field t) h = let ks = with_text ns k (with_field field t (text_of ns k)) in then_marks n ns ks (mark ks k) (text_below k _ h) (marked ks k)
-  edit_below (SetRaw k raw t) h = text_below k (with_raw raw t (text_of ns k)) h
+  edit_below (Set field k t) h = let ks = with_text ns k (with_field field t (text_of ns k)) in then_marks n ns ks (mark ks k) (text_below k _ h) (marked ks k)
+  edit_below (SetRaw raw k t) h = text_below k (with_raw raw t (text_of ns k)) h
   edit_below (New k t o) h = new_below t o
   edit_below (Insert c p at) h =
       let ls = linked ns p at c in

@@ -19,8 +19,8 @@ use Rattle.visitor_machine.specs.Follow.{follow, start}
 -- The node that an edit alters: the one of which it sets a field or a raw, or whose children it changes. A node that is
 -- put in or taken out isn't altered itself.
 abbrev pub altered : List Node → Edit → Option ℕ
-altered ns (Set n field text) = Some n
-altered ns (SetRaw n raw text) = Some n
+altered ns (Set field n text) = Some n
+altered ns (SetRaw raw n text) = Some n
 altered ns (New n text span) = None
 altered ns (Insert n p at) = Some p
 altered ns (Remove n) = parent_of ns n

@@ -9,9 +9,9 @@ use Rattle.visitor_machine.specs.Examples.{nested, beside, declared}
 
 -- A node is touched where a field or a raw of it, or of a node below it, is set.
 abbrev pub SetTouches : Type 0
-SetTouches = (is_untouched beside 1 (I.Edit (Set 1 F.Selector (codes "x")) ∷ []) ≡ false)
-    × (is_untouched beside 2 (I.Edit (Set 1 F.Selector (codes "x")) ∷ []) ≡ true)
-    × (is_untouched declared 1 (I.Edit (SetRaw 2 R.Between (codes ": ")) ∷ []) ≡ false)
+SetTouches = (is_untouched beside 1 (I.Edit (Set F.Selector 1 (codes "x")) ∷ []) ≡ false)
+    × (is_untouched beside 2 (I.Edit (Set F.Selector 1 (codes "x")) ∷ []) ≡ true)
+    × (is_untouched declared 1 (I.Edit (SetRaw R.Between 2 (codes ": ")) ∷ []) ≡ false)
 
 -- A node that is moved isn't touched, but the containers are that it leaves and comes to.
 abbrev pub MoveTouches : Type 0
@@ -21,5 +21,5 @@ MoveTouches = (is_untouched nested 2 (I.Edit (Remove 2) ∷ I.Edit (Insert 2 0 0
 
 -- An edit of a node that stands below counts, and none of one that stands or stood above.
 abbrev pub BelowTouches : Type 0
-BelowTouches = (is_untouched nested 0 (I.Edit (Set 2 F.Selector (codes "x")) ∷ []) ≡ false)
-    × (is_untouched nested 2 (I.Edit (Set 1 F.Selector (codes "x")) ∷ I.Edit (Remove 1) ∷ I.Edit (Set 1 F.Selector (codes "y")) ∷ I.Enter 2 ∷ []) ≡ true)
+BelowTouches = (is_untouched nested 0 (I.Edit (Set F.Selector 2 (codes "x")) ∷ []) ≡ false)
+    × (is_untouched nested 2 (I.Edit (Set F.Selector 1 (codes "x")) ∷ I.Edit (Remove 1) ∷ I.Edit (Set F.Selector 1 (codes "y")) ∷ I.Enter 2 ∷ []) ≡ true)

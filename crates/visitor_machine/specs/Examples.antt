@@ -123,7 +123,7 @@ Moved = (outcome_of (hook_at E.Rule) nested (
 -- a filter is compared with the property that the node has when the hook comes up
 abbrev pub LateFilter : Type 0
 LateFilter = outcome_of (filtered_at E.Declaration (codes "X")) declared (
-    I.Pass ∷ I.Enter 0 ∷ I.Enter 1 ∷ I.Enter 2 ∷ called 0 E.Declaration 2 (Set 2 F.Prop (codes "x") ∷ []) ++ called 1 E.Declaration 2 [] ++ I.Leave 2 ∷ I.Leave 1 ∷ I.Leave 0 ∷
+    I.Pass ∷ I.Enter 0 ∷ I.Enter 1 ∷ I.Enter 2 ∷ called 0 E.Declaration 2 (Set F.Prop 2 (codes "x") ∷ []) ++ called 1 E.Declaration 2 [] ++ I.Leave 2 ∷ I.Leave 1 ∷ I.Leave 0 ∷
     I.Pass ∷ I.Enter 0 ∷ I.Enter 1 ∷ I.Enter 2 ∷ called 0 E.Declaration 2 [] ++ called 1 E.Declaration 2 [] ++ I.Leave 2 ∷ I.Leave 1 ∷ I.Leave 0 ∷ I.End ∷ [])
     ≡ (true, (1 ∷ [], false) ∷ (2 ∷ [], false) ∷ ([], false) ∷ [])
 
@@ -146,5 +146,5 @@ FailedCall = (stage_after 9 E.Rule (I.Pass ∷ I.Enter 0 ∷ I.Enter 1 ∷ call 
 
 -- an edit that changes nothing is no item of a run, nor is one outside a call
 abbrev pub NoEdit : Type 0
-NoEdit = (stage_after 9 E.Rule (I.Pass ∷ I.Enter 0 ∷ I.Enter 1 ∷ call 0 E.Rule 1 ∷ I.Edit (Set 1 F.Selector (codes "a")) ∷ []) ≡ None)
+NoEdit = (stage_after 9 E.Rule (I.Pass ∷ I.Enter 0 ∷ I.Enter 1 ∷ call 0 E.Rule 1 ∷ I.Edit (Set F.Selector 1 (codes "a")) ∷ []) ≡ None)
     × (stage_after 9 E.Rule (I.Pass ∷ I.Enter 0 ∷ I.Edit (Remove 1) ∷ []) ≡ None)

@@ -71,8 +71,8 @@ from_zero ns n (Some p) q = not_down (nat_eq q p && nat_lt (place_of ns p n) 0)
 moved_zero : (ns : List Node) (e : Edit) (q : ℕ) → moved ns e q 0 ≡ 0
 moved_zero ns (Insert n p at) q = not_up (nat_eq q p) at
 moved_zero ns (Remove n) q = from_zero ns n (parent_of ns n) q
-moved_zero ns (Set n field text) q = refl
-moved_zero ns (SetRaw n raw text) q = refl
+moved_zero ns (Set field n text) q = refl
+moved_zero ns (SetRaw raw n text) q = refl
 moved_zero ns (New n text span) q = refl
 
 count_zero : (ns : List Node) (es : List Edit) (q k : ℕ) → k ≡ 0 → moved_count ns es q k ≡ 0

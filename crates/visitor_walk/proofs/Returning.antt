@@ -58,7 +58,7 @@ one_shortened ns n E.Declaration (AtRule before name after_name params between b
 one_shortened ns n E.Declaration (Rule before selector between block) o es fs a b = b ∙ sym a
 one_shortened ns n E.Declaration (Comment before left text right) o es fs a b = b ∙ sym a
 one_shortened ns n E.Declaration (Declaration before prop between val important important_raw tail) None es fs a b = b ∙ sym a
-one_shortened ns n E.Declaration (Declaration before prop between val important important_raw tail) (Some p) es fs a b = b.2 ∙ (ap (λ t. changing ns (Set n F.Value t ∷ [])) (one_short val.source b.0 a.0 b.1 a.1) ∙ sym a.2)
+one_shortened ns n E.Declaration (Declaration before prop between val important important_raw tail) (Some p) es fs a b = b.2 ∙ (ap (λ t. changing ns (Set F.Value n t ∷ [])) (one_short val.source b.0 a.0 b.1 a.1) ∙ sym a.2)
 
 -- a duty asks for one list of edits
 pub one_effect : (d : Duty) (ns : List Node) (m : Moment) (es fs : List Edit) → IsEffect d ns m es → IsEffect d ns m fs → fs ≡ es

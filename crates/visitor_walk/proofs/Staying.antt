@@ -112,12 +112,12 @@ removed_from_by ns n q (Some p) s z h e = removed ns n p q s z e
 
 -- one edit
 counts : (ns : List Node) (e : Edit) (q : ℕ) → IsSound ns → 0 < length ns → can ns e ≡ true → Counts ns (apply ns e) q (one_of (puts_into q (I.Edit e))) (one_of (takes_out (I.Edit e)))
-counts ns (Set n field text) q s z h =
+counts ns (Set field n text) q s z h =
     let ks = with_text ns n _ in
     let l = SameLinks-text ns n _ in
     let m = links_mark ks n in
     same_counts ns (mark ks n) q (λ k. m.parents k ∙ l.parents k) (m.lists q ∙ l.lists q)
-counts ns (SetRaw n raw text) q s z h = let l = SameLinks-text ns n _ in same_counts ns _ q l.parents (l.lists q)
+counts ns (SetRaw raw n text) q s z h = let l = SameLinks-text ns n _ in same_counts ns _ q l.parents (l.lists q)
 counts ns (New n text span) q s z h = same_counts ns _ q (field_pushed (λ x. x.parent) ns (new_node text span) refl) (field_pushed (λ x. x.children) ns (new_node text span) refl q)
 counts ns (Insert n p at) q s z h = let a = insertable ns n p at (and_parts _ _ h).0 in inserted ns n p at q a.node_in a.parent_in a.loose a.place
 counts ns (Remove n) q s z h = removed_from_by ns n q (parent_of ns n) s z (removable ns n (and_parts _ _ h).0) refl

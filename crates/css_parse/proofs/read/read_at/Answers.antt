@@ -1,5 +1,4 @@
-use Rattle.std.proofs.Common.{IfOk, MatchOption, ◌≡◌, ◌<◌, ◌≤◌, Ok, Some, None, Option, Result, length, drop, ℕ, List, ◌∷◌, ap, ◌∙◌, sym, subst, refl, arith}
-use Rattle.std.specs.declared.alloc.AllocError.{AllocError}
+use Rattle.std.proofs.Common.{IfOk, ◌≡◌, ◌<◌, ◌≤◌, Ok, length, drop, ◌∷◌, ap, ◌∙◌, sym, subst, arith}
 use Rattle.std.specs.Str.{chars}
 use Rattle.css_text.specs.Ahead.{ahead, behind, end_or, next_of}
 use Rattle.css_tree.specs.Pieces.{end_of}

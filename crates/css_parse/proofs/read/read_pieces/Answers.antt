@@ -1,12 +1,11 @@
-use Rattle.std.proofs.Common.{if◌then◌else◌, ◌≡◌, Ok, length, ap, ◌∙◌, sym, subst, arith}
+use Rattle.std.proofs.Common.{if◌then◌else◌, length, ap, ◌∙◌, sym, subst}
 use Rattle.std.specs.Str.{chars}
-use Rattle.css_text.specs.Ahead.{ahead, begins_bom}
+use Rattle.css_text.specs.Ahead.{begins_bom}
 use Rattle.css_parse.specs.Machine.{start}
-use Rattle.css_parse.specs.Model.{model}
-use Rattle.css_parse.specs.Going.{Going, Reads}
-use Rattle.css_parse.specs.Standing.{sheet, IsBehind}
+use Rattle.css_parse.specs.Going.{Going}
+use Rattle.css_parse.specs.Standing.{sheet}
 use Rattle.css_parse.proofs.Ascii.{text-length}
-use Rattle.css_parse.proofs.Loop.{going, small-within, read_end}
+use Rattle.css_parse.proofs.Loop.{going}
 use Rattle.css_parse.proofs.read.read_pieces.Goals as goal
 
 pub statements-init : goal.statements-init

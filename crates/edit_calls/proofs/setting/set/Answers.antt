@@ -16,7 +16,7 @@ returns c =
     let n = c.args.n in
     let field = c.args.field in
     let rs = refused_field ns n field in
-    let e = Set n field (chars c.args.text.now) in
+    let e = Set field n (chars c.args.text.now) in
     let pass = passed rs c.check_field.result c.map_err.result c.in_ok-map_err.field-0 c.map_err.ensures.variant c.in_ok-map_err.was c.check_field.ensures in
     let allowed = neither (nat_lt n (length ns)) (takes_field field (text_of ns n)) NoSuchNode WrongKind pass in
     answered (setting ns n field (chars c.args.text.now)) (where_changing ns e) old c.set_field.new.self c.set_field.result c.map_err-2.result (plan-ok rs (where_changing ns e) pass)

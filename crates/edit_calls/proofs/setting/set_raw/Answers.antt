@@ -16,7 +16,7 @@ returns c =
     let n = c.args.n in
     let raw = c.args.raw in
     let rs = refused_raw ns n raw in
-    let e = SetRaw n raw (chars c.args.text.now) in
+    let e = SetRaw raw n (chars c.args.text.now) in
     let pass = passed rs c.check_raw.result c.map_err.result c.in_ok-map_err.field-0 c.map_err.ensures.variant c.in_ok-map_err.was c.check_raw.ensures in
     let allowed = neither (nat_lt n (length ns)) (takes_raw raw (text_of ns n)) NoSuchNode WrongKind pass in
     answered (shaping ns n raw (chars c.args.text.now)) (where_changing ns e) old c.set_shape.new.self c.set_shape.result c.map_err-2.result (plan-ok rs (where_changing ns e) pass)

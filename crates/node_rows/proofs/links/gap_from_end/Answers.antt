@@ -13,5 +13,6 @@ gap_back-requires-clause-before c =
     let xs = kids rs p in
     let j = c.requires.sound.joined p c.requires.given in
     let r = get_or_read rs p c.index-row.result.now c.requires.given c.index-row.ensures no_row in
-    let all : take c.index-row.result.now.count xs ≡ xs = ap (λ x. take x.count xs) r ∙ (ap (λ n. take n xs) j.1 ∙ take-length xs) in
+    let counts = c.count-count.ensures ∙ (ap (λ x. x.tally.count) r ∙ j.1) in
+    let all : take c.count-count.result xs ≡ xs = ap (λ n. take n xs) counts ∙ take-length xs in
     ap (λ x. x.last) r ∙ (segment-end (next rs) (prev rs) None (row_at rs p).first xs (row_at rs p).last None j.0 ∙ ap (end_of None) (sym all))

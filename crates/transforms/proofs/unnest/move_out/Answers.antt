@@ -25,8 +25,8 @@ returns-in_err-set_selector c = λ p e.
     let err : is_ok c.set_selector.result ≡ false = search rules in
     let s = c.from_residual-in_err-set_selector.result in
     let stopped : is_ok s ≡ false = search rules in
-    let made = subst (λ x. MakesFront f c.set_selector.new.work (changing ns (Set m F.Selector x ∷ [])) c.set_selector.result) text c.set_selector.ensures in
-    front-stopped f c.set_selector.new.work (changing ns (Set m F.Selector t ∷ [])) fs c.set_selector.result s made err stopped
+    let made = subst (λ x. MakesFront f c.set_selector.new.work (changing ns (Set F.Selector m x ∷ [])) c.set_selector.result) text c.set_selector.ensures in
+    front-stopped f c.set_selector.new.work (changing ns (Set F.Selector m t ∷ [])) fs c.set_selector.result s made err stopped
 
 pub move_behind-requires-clause-rule : goal.move_behind-requires-clause-rule
 move_behind-requires-clause-rule c =
@@ -34,7 +34,7 @@ move_behind-requires-clause-rule c =
     let mid = c.set_selector.new.work in
     let t = chars c.as_str.result.now in
     let ok : is_ok c.set_selector.result ≡ true = search rules in
-    let es = changing f.nodes (Set c.args.child F.Selector t ∷ []) in
+    let es = changing f.nodes (Set F.Selector c.args.child t ∷ []) in
     let made = front-ok f mid es c.set_selector.result c.set_selector.ensures ok in
     let l = subst (SameLinks f.nodes) (sym made.edited.nodes) (selector-links f.nodes c.args.child t) in
     subst (λ o. IsSome o) (sym (l.parents c.args.rule)) c.requires.rule
@@ -45,7 +45,7 @@ move_behind-requires-clause-child c =
     let mid = c.set_selector.new.work in
     let t = chars c.as_str.result.now in
     let ok : is_ok c.set_selector.result ≡ true = search rules in
-    let es = changing f.nodes (Set c.args.child F.Selector t ∷ []) in
+    let es = changing f.nodes (Set F.Selector c.args.child t ∷ []) in
     let made = front-ok f mid es c.set_selector.result c.set_selector.ensures ok in
     let l = subst (SameLinks f.nodes) (sym made.edited.nodes) (selector-links f.nodes c.args.child t) in
     l.parents c.args.child ∙ c.requires.child
@@ -61,8 +61,8 @@ returns c = λ p e.
     let t = selector_of (text_of ns n) ++ own_selector (text_of ns m) in
     let text : chars c.as_str.result.now ≡ t = c.as_str.ensures.characters ∙ c.in_ok-selector.ensures in
     let ok : is_ok c.set_selector.result ≡ true = search rules in
-    let set = subst (λ x. MakesFront f mid (changing ns (Set m F.Selector x ∷ [])) c.set_selector.result) text c.set_selector.ensures in
-    let es = changing ns (Set m F.Selector t ∷ []) in
+    let set = subst (λ x. MakesFront f mid (changing ns (Set F.Selector m x ∷ [])) c.set_selector.result) text c.set_selector.ensures in
+    let es = changing ns (Set F.Selector m t ∷ []) in
     let made = front-ok f mid es c.set_selector.result set ok in
     let l = subst (SameLinks ns) (sym made.edited.nodes) (selector-links ns m t) in
     let place : place_of mid.nodes p n ≡ place_of ns p n = ap (position_or_len (nat_eq n)) (l.lists p) in

@@ -1,5 +1,4 @@
-use Rattle.std.proofs.Common.{◌≡◌, ◌<◌, ◌+◌, length, [], ◌∷◌, ◌++◌, refl, ap, ◌∙◌, sym, subst, reverse}
-use Rattle.css_parse.specs.declared.turn.Frame.{Frame}
+use Rattle.std.proofs.Common.{◌≡◌, ◌<◌, ◌+◌, length, [], ◌∷◌, ◌++◌, refl, ap, ◌∙◌, sym, subst}
 use Rattle.css_parse.specs.PlainSteps.{brace}
 use Rattle.css_parse.specs.Standing.{sheet, gap_text}
 use Rattle.css_parse.proofs.ParserPlaces.{no-gap, machine-is, up-to-here, framed}

@@ -16,7 +16,7 @@ invariant_of-self-2 c =
     let few : length rs < 67108865 = rw (← length-shown rs) (rw c.self.view_is c.requires) in
     let put : Row → List Row = λ x. rs ++ x ∷ [] in
     let of : Option Span → Row = λ s. row_of (record { text = c.args.text; span = s }) in
-    let is_row = ◌∙◌ {A = Row} c.loose_row.ensures (ap of c.in_ok-span.ensures) in
+    let is_row = ◌∙◌ {A = Row} c.loose_row.ensures (ap of c.in_ok-span.ensures.0) in
     let e = ◌∙◌ {A = List Row} c.in_ok-push.ensures.items (ap put is_row) in
     subst (λ l. IsLinked l × IsFinger (shown_rows l) c.self.inside.finger) (sym e) (
       IsLinked-pushed rs c.self.invariant.0 c.args.text c.args.span few,
@@ -28,7 +28,7 @@ returns c =
     let rs = c.self.inside.items.items in
     let put : Row → List Row = λ x. rs ++ x ∷ [] in
     let of : Option Span → Row = λ s. row_of (record { text = c.args.text; span = s }) in
-    let is_row = ◌∙◌ {A = Row} c.loose_row.ensures (ap of c.in_ok-span.ensures) in
+    let is_row = ◌∙◌ {A = Row} c.loose_row.ensures (ap of c.in_ok-span.ensures.0) in
     let e = ◌∙◌ {A = List Row} c.in_ok-push.ensures.items (ap put is_row) in (
       omega (arith, c.len-number.ensures, c.self.inside.items.ok.0, length-shown rs, ap length c.self.view_is),
       ap shown_rows e ∙ (shown-pushed rs c.self.invariant.0 c.args.text c.args.span ∙ ap (λ l. l ++ new_node c.args.text c.args.span ∷ []) c.self.view_is),

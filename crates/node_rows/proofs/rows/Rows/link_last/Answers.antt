@@ -41,7 +41,7 @@ invariant_of-self c =
     let apart : holds (shown_rows rs) c.args.node c.args.parent ≡ false = rw c.self.view_is c.requires.apart in
     let r = get_or_read rs c.args.parent c.index-row.result.now (rw (← length-shown rs) wp) c.index-row.ensures no_row in
     let e = c.join.ensures ∙ (ap (joined_in rs c.args.parent c.args.node c.index-row.result.now.last) c.none.ensures ∙ ap (λ x. joined_in rs c.args.parent c.args.node x.last None) r) in
-    let counts = ap (λ x. x.count) r ∙ last_counts rs c.self.invariant.0 c.args.parent c.args.node wp wn c.requires.not_root loose apart in
+    let counts = c.count.ensures ∙ (ap (λ x. x.tally.count) r ∙ last_counts rs c.self.invariant.0 c.args.parent c.args.node wp wn c.requires.not_root loose apart) in
     let shows = last_shown rs c.self.invariant.0 c.args.parent c.args.node wp wn c.requires.not_root loose apart c.join.new.rows.items e ∙ ap (λ at. linked (shown_rows rs) c.args.parent at c.args.node) (sym counts) in (
       last_linked rs c.self.invariant.0 c.args.parent c.args.node wp wn c.requires.not_root loose apart c.join.new.rows.items e,
       subst (λ ms. IsFinger ms c.finger_with-self-inside.result) (sym shows) (c.finger_with-self-inside.ensures (shown_rows rs) wp wn (omega (arith, counts)) c.self.invariant.1),

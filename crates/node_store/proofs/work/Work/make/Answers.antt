@@ -32,7 +32,9 @@ returns c =
     let done = edited-made c.self.inside.text ns c.self.inside.seats.items c.self.invariant (length ns) text span c.add.new.self allowed within refl c.in_ok-add.ensures.1 in
     let is_last = c.new-node.ensures ∙ c.in_ok-add.ensures.0 in
     let size = ap (λ w. length w.nodes) c.self.view_is in
-    let logged = c.push_reserved.ensures.items ∙ (ap (λ k. lent ++ I.Edit (New k c.in_ok-copy.copy span) ∷ []) is_last ∙ ap (λ t. lent ++ I.Edit (New (length ns) t span) ∷ []) (c.in_ok-copy.ensures ∙ c.in_ok-copy_node.ensures)) in (
+    let logged = c.push_reserved.ensures.items ∙ (ap (λ k. lent ++ I.Edit (New k c.in_ok-copy.copy c.in_ok-packed.packed) ∷ []) is_last
+    ∙ (ap (λ t. lent ++ I.Edit (New (length ns) t c.in_ok-packed.packed) ∷ []) (c.in_ok-copy.ensures ∙ c.in_ok-copy_node.ensures)
+    ∙ ap (λ s. lent ++ I.Edit (New (length ns) text s) ∷ []) c.in_ok-packed.ensures.0)) in (
       is_last ∙ size,
       view-edited f _ _ _ _ _ _ c.self.view_is (New (length ns) text span) c.add.new.self c.self.inside.seats.items lent c.push_reserved.new.self.items c.in_ok-add.ensures.1 done.shown c.in_ok-reserve.ensures.items logged
           ∙ ap (λ k. edited (unreserved f) (New k text span)) size,

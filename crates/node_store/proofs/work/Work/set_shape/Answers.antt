@@ -16,7 +16,7 @@ invariant_of-self-2 c =
     let t = chars c.args.text.now in
     let node = c.args.node in
     let raw = c.args.raw in
-    let allowed = subst (λ f. is_allowed f.nodes (SetRaw node raw t) ≡ true) (sym c.self.view_is) c.requires in
+    let allowed = subst (λ f. is_allowed f.nodes (SetRaw raw node t) ≡ true) (sym c.self.view_is) c.requires in
     let set = c.set_raw.ensures ∙ (ap (λ k. with_text ns k (with_raw raw c.in_ok-written.written (text_of ns k))) c.number-n.ensures
     ∙ ap (λ s. with_text ns node (with_raw raw s (text_of ns node))) c.in_ok-written.ensures) in
     (edited-shaped c.self.inside.text ns c.self.inside.seats.items c.self.invariant node raw t c.set_raw.new.self allowed set).stored
@@ -28,11 +28,11 @@ returns c =
     let node = c.args.node in
     let raw = c.args.raw in
     let lent = c.reserve.new.self.items in
-    let allowed = subst (λ f. is_allowed f.nodes (SetRaw node raw t) ≡ true) (sym c.self.view_is) c.requires in
+    let allowed = subst (λ f. is_allowed f.nodes (SetRaw raw node t) ≡ true) (sym c.self.view_is) c.requires in
     let set = c.set_raw.ensures ∙ (ap (λ k. with_text ns k (with_raw raw c.in_ok-written.written (text_of ns k))) c.number-n.ensures
     ∙ ap (λ s. with_text ns node (with_raw raw s (text_of ns node))) c.in_ok-written.ensures) in
     let done = edited-shaped c.self.inside.text ns c.self.inside.seats.items c.self.invariant node raw t c.set_raw.new.self allowed set in
-    let logged = c.push_reserved.ensures.items ∙ ap (λ s. lent ++ I.Edit (SetRaw node raw s) ∷ []) c.in_ok-logged.ensures in
+    let logged = c.push_reserved.ensures.items ∙ ap (λ s. lent ++ I.Edit (SetRaw raw node s) ∷ []) c.in_ok-logged.ensures in
     let held : has_raw raw t (text_of ns node) ≡ false = sym (ap (λ k. has_raw raw t (text_of ns k)) c.number-n.ensures) ∙ (sym (c.has_raw.ensures ∙ ap (has_raw raw t) c.text.ensures) ∙ c.if-has_raw.false) in
-    view-edited c.args.self.now _ _ _ _ _ _ c.self.view_is (SetRaw node raw t) c.set_raw.new.self c.self.inside.seats.items lent c.push_reserved.new.self.items set done.shown c.in_ok-reserve.ensures.items logged
-    ∙ view-where c.args.self.now _ _ _ _ _ _ c.self.view_is (SetRaw node raw t) (ap not held)
+    view-edited c.args.self.now _ _ _ _ _ _ c.self.view_is (SetRaw raw node t) c.set_raw.new.self c.self.inside.seats.items lent c.push_reserved.new.self.items set done.shown c.in_ok-reserve.ensures.items logged
+    ∙ view-where c.args.self.now _ _ _ _ _ _ c.self.view_is (SetRaw raw node t) (ap not held)

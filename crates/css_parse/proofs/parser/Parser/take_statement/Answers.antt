@@ -1,22 +1,20 @@
-use Rattle.std.proofs.Common.{◌≡◌, ◌<◌, ◌≤◌, ◌+◌, [], length, Some, IfSome, refl, ap, ◌∙◌, sym, subst, arith}
+use Rattle.std.proofs.Common.{◌<◌, length, Some, IfSome, ap, ◌∙◌, subst, arith}
 use Rattle.std.proofs.lemmas.Grind.{common_steps}
 use Rattle.css_parse.specs.Plain.{IsPlain, IsPlainLeaf, IsPlainHead}
 use Rattle.css_parse.proofs.PlainGoing.{FoundLeaf, found-leaf, FoundHead, found-head}
-use Rattle.css_parse.proofs.parser.Parser.take_plain.Goals as goal
-use Rattle.css_parse.proofs.parser.Parser.take_plain.Goals.{In-Some-Leaf, Then-len-lt200}
+use Rattle.css_parse.proofs.parser.Parser.take_statement.Goals as goal
+use Rattle.css_parse.proofs.parser.Parser.take_statement.Goals.{In-Some-Leaf, Then-len-lt200}
 
 leaf : (c : In-Some-Leaf) → FoundLeaf c.args.src.now c.args.at c.args.self.now c.in-Some-Leaf.leaf
 leaf c =
-    let idle : c.args.self.now.run ≡ [] = grind (arith, common_steps) in
     let plain : IsPlainLeaf c.as_bytes.result.now c.args.at c.in-Some-Leaf.leaf = subst (λ r. IfSome r (λ s. IsPlain c.as_bytes.result.now c.args.at s)) (c.in-Some-Leaf.is ∙ ap Some c.in-Some-Leaf.field-0-is) c.statement_at.ensures in
-    found-leaf c.args.src.now c.args.at c.args.self.now c.in-Some-Leaf.leaf c.utf8.src c.requires.going idle (subst (λ z. IsPlainLeaf z c.args.at c.in-Some-Leaf.leaf) c.as_bytes.ensures.value plain)
+    found-leaf c.args.src.now c.args.at c.args.self.now c.in-Some-Leaf.leaf c.utf8.src c.requires.going c.requires.idle (subst (λ z. IsPlainLeaf z c.args.at c.in-Some-Leaf.leaf) c.as_bytes.ensures.value plain)
 
 head : (c : Then-len-lt200) → FoundHead c.args.src.now c.args.at c.args.self.now c.in-Some-Head.head
 head c =
-    let idle : c.args.self.now.run ≡ [] = grind (arith, common_steps) in
     let few : length c.args.self.now.frames.items < 200 = grind (arith, common_steps) in
     let plain : IsPlainHead c.as_bytes.result.now c.args.at c.in-Some-Head.head = subst (λ r. IfSome r (λ s. IsPlain c.as_bytes.result.now c.args.at s)) (c.in-Some-Head.is ∙ ap Some c.in-Some-Head.field-0-is) c.statement_at.ensures in
-    found-head c.args.src.now c.args.at c.args.self.now c.in-Some-Head.head c.utf8.src c.requires.going idle few (subst (λ z. IsPlainHead z c.args.at c.in-Some-Head.head) c.as_bytes.ensures.value plain)
+    found-head c.args.src.now c.args.at c.args.self.now c.in-Some-Head.head c.utf8.src c.requires.going c.requires.idle few (subst (λ z. IsPlainHead z c.args.at c.in-Some-Head.head) c.as_bytes.ensures.value plain)
 
 pub add_plain_leaf-requires-clause-behind : goal.add_plain_leaf-requires-clause-behind
 add_plain_leaf-requires-clause-behind c = (leaf (goal.at.add_plain_leaf-requires-clause-behind c).In-Some-Leaf).behind
