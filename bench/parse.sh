@@ -51,7 +51,7 @@ for kind in ordinary comments semicolons brackets one-line deep; do
     for megabytes in 1 2 4 8; do
         made "$kind" $((megabytes * 1048576)) >"$work/sheet.css"
         # shellcheck disable=SC2046
-        set -- $(python3 "$top/bench/measure.py" "$work/sheet.css" "$work/out" "$top/csswork" transform)
+        set -- $(python3 "$top/bench/measure.py" 5 "$work/sheet.css" "$work/out" "$top/csswork" transform)
         printf '  %s MB %s s %s MiB' "$megabytes" "$1" "$2"
     done
     echo

@@ -5,9 +5,10 @@
 #
 # Takes bootstrap.css of Debian's libjs-bootstrap5 and PostCSS of Debian's node-postcss, which are installed by name where they
 # are missing and can be; else what lacks is skipped. For the sheet, and for thirty copies of it in one sheet of about 7 MB, it
-# prints the wall time (the best of five) and the peak memory of the whole processes: csswork transform, csswork lint, and
+# prints the wall time (the best of nine) and the peak memory of the whole processes: csswork transform, csswork lint, and
 # PostCSS parsing and printing; then csswork with the plugins short-hex and drop-empty, and PostCSS with the same two; and the
-# ratios to PostCSS. The first outputs are compared with the input, byte for byte, and the last two with each other.
+# ratios to PostCSS. They run in turns. The first outputs are compared with the input, byte for byte, and the last two with
+# each other.
 set -u
 top=$(cd "$(dirname "$0")/.." && pwd)
 work=$(mktemp -d)
@@ -61,53 +62,55 @@ fi
 # The first run proves and builds the program where that is to be done.
 "$top/csswork" </dev/null >/dev/null 2>&1
 
-# run NAME SHEET WANTED-STATUS WORD..
-run() {
-    name=$1
-    input=$2
-    wanted=$3
-    shift 3
-    # shellcheck disable=SC2046
-    set -- $(python3 "$top/bench/measure.py" "$input" "$work/out" "$@")
-    seconds=$1
-    memory=$2
-    case " $wanted " in
-        *" $3 "*) ;;
-        *) echo "peers: $name ended with status $3" ;;
+# shown NAME WANTED-STATUS, with a line of measure.py as the standard input: says what it holds, and keeps it.
+shown() {
+    read -r seconds memory status
+    case " $2 " in
+        *" $status "*) ;;
+        *) echo "peers: $1 ended with status $status" ;;
     esac
-    printf '  %-20s %8s s %8s MiB\n' "$name" "$seconds" "$memory"
+    printf '  %-20s %8s s %8s MiB\n' "$1" "$seconds" "$memory"
+    echo "$seconds $memory" >>"$work/shown"
 }
 
 same() {
-    cmp -s "$1" "$work/out" || echo "peers: $2 changed the sheet"
+    cmp -s "$1" "$2" || echo "peers: $3"
+}
+
+# ratios: of PostCSS, in the third and fifth line, to the others.
+ratios() {
+    awk '{ seconds[NR] = $1; memory[NR] = $2 } END {
+        printf "  PostCSS takes %.1f times as long as transform, %.1f times as long as lint, and %.1f times as long with the plugins;\n", seconds[3] / seconds[1], seconds[3] / seconds[2], seconds[5] / seconds[4]
+        printf "  %.1f times the memory of transform, %.1f times that of lint, and %.1f times with the plugins\n", memory[3] / memory[1], memory[3] / memory[2], memory[5] / memory[4]
+    }' "$work/shown"
 }
 
 for name in bootstrap thirty; do
     input=$work/$name.css
     echo "$name.css, $(wc -c <"$input") bytes"
-    run 'csswork transform' "$input" 0 "$top/csswork" transform
-    same "$input" 'csswork transform'
-    transform=$seconds
-    held=$memory
-    run 'csswork lint' "$input" '0 2' "$top/csswork" lint
-    lint=$seconds
+    : >"$work/shown"
+    set -- "$work/transform" "$top/csswork" transform + "$work/lint" "$top/csswork" lint
     if [ "$peer" = yes ]; then
-        run 'PostCSS' "$input" 0 node "$work/postcss.js"
-        same "$input" 'PostCSS'
-        awk -v t="$transform" -v h="$held" -v l="$lint" -v p="$seconds" -v m="$memory" 'BEGIN {
-            printf "  PostCSS takes %.1f times as long as transform, %.1f times as long as lint, and %.1f times the memory of transform\n", p / t, p / l, m / h
-        }'
+        set -- "$@" + "$work/postcss" node "$work/postcss.js"
+    fi
+    set -- "$@" + "$work/plugins" "$top/csswork" transform --use short-hex,drop-empty
+    if [ "$peer" = yes ]; then
+        set -- "$@" + "$work/postcss_plugins" node "$work/plugins.js"
+    fi
+    python3 "$top/bench/measure.py" 9 "$input" "$@" >"$work/lines"
+    {
+        shown 'csswork transform' 0
+        shown 'csswork lint' '0 2'
+        if [ "$peer" = yes ]; then shown 'PostCSS' 0; fi
+        shown 'csswork, plugins' 0
+        if [ "$peer" = yes ]; then shown 'PostCSS, plugins' 0; fi
+    } <"$work/lines"
+    same "$input" "$work/transform" 'csswork transform changed the sheet'
+    if [ "$peer" = yes ]; then
+        same "$input" "$work/postcss" 'PostCSS changed the sheet'
+        same "$work/plugins" "$work/postcss_plugins" 'csswork and PostCSS with the plugins differ'
+        ratios
     else
         echo '  PostCSS is not there, and was skipped'
-    fi
-    run 'csswork, plugins' "$input" 0 "$top/csswork" transform --use short-hex,drop-empty
-    plugins=$seconds
-    cp "$work/out" "$work/plugins.css"
-    if [ "$peer" = yes ]; then
-        run 'PostCSS, plugins' "$input" 0 node "$work/plugins.js"
-        same "$work/plugins.css" 'csswork and PostCSS with the plugins differ: one of them'
-        awk -v t="$plugins" -v p="$seconds" 'BEGIN {
-            printf "  PostCSS takes %.1f times as long as csswork with the plugins\n", p / t
-        }'
     fi
 done
