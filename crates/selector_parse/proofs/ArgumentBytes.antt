@@ -7,7 +7,7 @@ use Rattle.std.proofs.lemmas.List.{get_or_past, length-drop}
 use Rattle.std.proofs.lemmas.Str.{encodes-chars, IsUtf8-between}
 use Rattle.css_text.specs.Forms.{begins}
 use Rattle.css_text.proofs.Slices.{IsFrom, IsSlice, from_begins, from_boundary, slice_begins, slice_length}
-use Rattle.selector_parse.specs.Grammar.{takes_args, takes_list}
+use Rattle.selector_parse.specs.Names.{takes_args, takes_list}
 use Rattle.selector_parse.proofs.KindBytes.{list-bytes}
 use Rattle.selector_parse.proofs.Scanned.{ahead_of}
 use Rattle.selector_parse.proofs.Rows.{byte_begins, behind}
@@ -33,7 +33,7 @@ paren_begins bs end (c ∷ cs) h = sym (from_begins bs end c cs 40 (lit< tt) h)
 pub args_test : (bs : List ℕ) (at end : ℕ) (t cs : List ℕ) → at < end → IsSlice bs at end t → IsFrom bs end cs → (takes_args t && begins 40 cs) ≡ (eqb (get_or bs at 0) 58 && eqb (get_or bs end 0) 40)
 args_test bs at end t cs l h f = ap (λ x. x && begins 40 cs) (name_begins bs at end t l h) ∙ ap (λ x. eqb (get_or bs at 0) 58 && x) (paren_begins bs end cs f)
 
--- behind a `(`
+-- after a `(`
 pub record Opened (bs : List ℕ) (at end : ℕ) (t : List ℕ) : Type 0 where
   pub rest : List ℕ
   pub here : IsFrom bs end (40 ∷ rest)

@@ -18,7 +18,9 @@ use Rattle.selector_parse.specs.declared.reading.Reading.TheVariants.{Text, Blan
 use Rattle.selector_parse.specs.declared.reading.Gap.TheVariants.{Comments}
 use Rattle.selector_parse.specs.Reading.{is_final, scan_len, scan_last}
 use Rattle.selector_parse.specs.Tree.{Tree, written, absent, text, list}
-use Rattle.selector_parse.specs.Grammar.{takes_args, takes_list, is_plain, is_whole, most_depth}
+use Rattle.selector_parse.specs.Names.{takes_args, takes_list}
+use Rattle.selector_parse.specs.Grammar.{most_depth}
+use Rattle.selector_parse.specs.Phases.{is_plain, is_whole}
 use Rattle.selector_parse.specs.Machine.{Place, at_start, in_simple, in_text, Stand, open_args, accepts, Blocked, blank_list}
 use Rattle.selector_parse.specs.Row.{IsEnded, IsHalt, IsNameHalt, IsListHalt, IsTextHalt, Halts, NameHalts, ListHalts, TextHalts, list_stops, reads_blanks, is_blank_list}
 use Rattle.selector_parse.proofs.Finish.{finish, made_whole, finish_final}

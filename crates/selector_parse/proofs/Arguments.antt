@@ -15,11 +15,13 @@ use Rattle.selector_parse.specs.declared.reading.Within.TheVariants.{Parentheses
 use Rattle.selector_parse.specs.declared.reading.Reading.{Reading}
 use Rattle.selector_parse.specs.declared.reading.Reading.TheVariants.{First, Next, Done, Text, Blank}
 use Rattle.selector_parse.specs.Reading.{step, on, is_final, read}
-use Rattle.selector_parse.specs.Tree.{Tree, written, Arguments, absent, text, list, enclosed}
-use Rattle.selector_parse.specs.Grammar.{takes_args, takes_list, is_logical, is_plain, is_whole, is_blanks, gap_read, most_depth, may_end}
+use Rattle.selector_parse.specs.Tree.{Tree, written, Arguments, absent, text, list}
+use Rattle.selector_parse.specs.Names.{takes_args, takes_list, is_logical}
+use Rattle.selector_parse.specs.Grammar.{most_depth}
+use Rattle.selector_parse.specs.Phases.{is_plain, is_whole, is_blanks, gap_read, may_end}
 use Rattle.selector_parse.specs.Machine.{Place, at_start, in_gap, in_simple, in_text, Stand, or_else, pop, enders, begin, opener, closer, open_args, move, follow, blank_list, Stuck, Matches, Calm}
-use Rattle.selector_parse.specs.Row.{IsEnded, IsClosedText, IsListText, IsArguments, closed, Fit, FitList, reads_blanks}
-use Rattle.selector_parse.proofs.Moves.{read_head, moved, follow-append, follow_gap, follow_text, behind_simple, behind_gap_end}
+use Rattle.selector_parse.specs.Row.{IsEnded, IsClosedText, IsListText, IsArguments, closed, Fit, FitList, reads_blanks, enclosed}
+use Rattle.selector_parse.proofs.Moves.{read_head, moved, follow-append, follow_gap, follow_text, after_simple, after_gap_end}
 use Rattle.selector_parse.proofs.Rows.{byte_begins, behind, one_byte}
 
 -- no other part begins with a parenthesis or a comma
@@ -55,9 +57,9 @@ first_comma : step First 44 ≡ None
 unfolding step
 first_comma = refl
 
--- behind a simple selector stands a `(`
+-- after a simple selector stands a `(`
 pub opens_args : (d : ℕ) (q : Reading) (name : List ℕ) → is_final q ≡ true → step q 40 ≡ None → move d (in_simple q name) 40 ≡ open_args d name
-opens_args d q name f s = behind_simple d q name 40 s f
+opens_args d q name f s = after_simple d q name 40 s f
     ∙ ap (λ o. or_else (on o (λ p. Some (d, in_gap false false p))) (or_else (begin Next d 40) (open_args d name))) blank_open
     ∙ ap (λ o. or_else (on o (λ p. Some (d, in_simple p (40 ∷ [])))) (open_args d name)) next_open
 
@@ -68,7 +70,7 @@ done_stuck (c ∷ cs) = refl
 
 -- what ends a complex selector
 simple_ends : (d : ℕ) (q : Reading) (t : List ℕ) (c : ℕ) → is_final q ≡ true → step q c ≡ None → step (Blank Comments) c ≡ None → step Next c ≡ None → eqb c 40 ≡ false → move d (in_simple q t) c ≡ enders d c
-simple_ends d q t c f s b n e = behind_simple d q t c s f
+simple_ends d q t c f s b n e = after_simple d q t c s f
     ∙ ap (λ o. or_else (on o (λ p. Some (d, in_gap false false p))) (or_else (begin Next d c) (cond (eqb c 40) (open_args d t) (enders d c)))) b
     ∙ ap (λ o. or_else (on o (λ p. Some (d, in_simple p (c ∷ [])))) (cond (eqb c 40) (open_args d t) (enders d c))) n
     ∙ ap (λ b. cond b (open_args d t) (enders d c)) e
@@ -80,7 +82,7 @@ opened Spaced c f n = f
 opened Symbol c f n = f
 
 gap_ends : (d : ℕ) (b : Bool) (q : Reading) (g : Gap) (c : ℕ) → step q c ≡ None → gap_read (Some q) ≡ Some g → is_blanks (Some g) ≡ true → step First c ≡ None → step Next c ≡ None → move d (in_gap false b q) c ≡ enders d c
-gap_ends d b q g c s r k f n = behind_gap_end d false b q g c s r
+gap_ends d b q g c s r k f n = after_gap_end d false b q g c s r
     ∙ ap (λ o. or_else (on o (λ p. Some (d, in_simple p (c ∷ [])))) (closer false b g d c)) (opened g c f n)
     ∙ ap (λ x. cond x (enders d c) None) k
 
@@ -114,7 +116,7 @@ text_moves d q last t r f s = follow-append d (in_text q) t (41 ∷ []) (d, in_t
 
 -- a list of blanks alone
 gap_closes : (d : ℕ) (q : Reading) (g : Gap) → step q 41 ≡ None → gap_read (Some q) ≡ Some g → is_blanks (Some g) ≡ true → move (suc d) (in_gap true true q) 41 ≡ Some (d, in_simple Done [])
-gap_closes d q g s r k = behind_gap_end (suc d) true true q g 41 s r
+gap_closes d q g s r k = after_gap_end (suc d) true true q g 41 s r
     ∙ ap (λ o. or_else (on o (λ p. Some (suc d, in_simple p (41 ∷ [])))) (closer true true g (suc d) 41)) first_close
     ∙ ap (λ x. cond (x && true) (pop (suc d)) None) k
 
@@ -187,7 +189,7 @@ module _ (bs : List ℕ) (from depth end : ℕ) (name : List ℕ) (cs : List ℕ
   next : IsFrom bs (from + 1) cs
   next = behind bs from 40 cs (lit< tt) here
 
-  -- behind the `(`
+  -- after the `(`
   goes_on : (q : Reading) (x y : List ℕ) (s n : Stand) → is_final q ≡ true → Stuck q (40 ∷ (x ++ y)) → open_args depth name ≡ Some s → follow s.0 s.1 x ≡ Some n → follow depth (in_simple q name) (40 ∷ x) ≡ Some n
   goes_on q x y s n f k o e = moved depth (in_simple q name) 40 x s (opens_args depth q name f k ∙ o) ∙ e
 

@@ -10,7 +10,7 @@ use Rattle.selector_parse.specs.declared.reading.Reading.{Reading}
 use Rattle.selector_parse.specs.declared.reading.Reading.TheVariants.{Blank, Done}
 use Rattle.selector_parse.specs.Reading.{scan_len, scan_last}
 use Rattle.selector_parse.specs.Tree.{none, gap, comment}
-use Rattle.selector_parse.specs.Grammar.{comment_next}
+use Rattle.selector_parse.specs.Phases.{comment_next}
 use Rattle.selector_parse.specs.Machine.{after_run, text_stops}
 use Rattle.selector_parse.specs.Row.{IsRow, IsInsideRun}
 use Rattle.selector_parse.proofs.Scanned.{Scanned, scanned}
@@ -18,7 +18,7 @@ use Rattle.selector_parse.proofs.Gaps.{comment_is}
 use Rattle.selector_parse.proofs.Moves.{comment_moves, run_last, run_after}
 use Rattle.selector_parse.proofs.Rows.{gap_row, stops_text}
 
--- what stands behind the comments, in characters
+-- what stands after the comments, in characters
 pub inside_run : (bs : List ℕ) (at depth : ℕ) (cs : List ℕ) → IsUtf8 bs → IsFrom bs at cs → IsInsideRun bs at depth → (scan_last (Blank Comments) cs ≡ Blank Comments) × (text_stops depth (after_run cs) ≡ false)
 inside_run bs at depth cs u f r =
     let h = scanned bs at (Blank Comments) (at + scan_len (Blank Comments) (drop at bs)) (scan_last (Blank Comments) (drop at bs)) u (from_boundary bs at cs f) refl refl in

@@ -13,7 +13,9 @@ use Rattle.selector_parse.specs.declared.reading.Reading.{Reading}
 use Rattle.selector_parse.specs.declared.reading.Reading.TheVariants.{Done, Text, Blank}
 use Rattle.selector_parse.specs.Reading.{step, on, read, is_final}
 use Rattle.selector_parse.specs.Tree.{Tree, none, comma, gap, simple, plain, nested, GapKind, blank as blank_gap, comment, combinator, written}
-use Rattle.selector_parse.specs.Grammar.{gap_of, is_blanks, is_comment, is_some_text, comment_next, is_simple, gap_next, is_plain, takes_args, takes_list, may_end, most_depth, Are, Selects}
+use Rattle.selector_parse.specs.Names.{takes_args, takes_list}
+use Rattle.selector_parse.specs.Grammar.{most_depth, Selects}
+use Rattle.selector_parse.specs.Phases.{gap_of, is_blanks, is_comment, is_some_text, comment_next, is_simple, gap_next, is_plain, may_end, Are, Passes}
 use Rattle.selector_parse.specs.Machine.{Place, at_start, in_gap, in_simple, in_text, Stand, follow, accepts, Blocked, Stuck, text_stops, Matches, Calm, Moves}
 use Rattle.selector_parse.specs.Fault.{IsFault}
 use lib.Utf8.{encodes}
@@ -28,11 +30,12 @@ use Rattle.selector_parse.proofs.GapMoves.{gap_leads}
 use Rattle.selector_parse.proofs.Arguments.{done_stuck, opens_args, list_opens, text_opens, text_moves, blank_moves, ends_comma, ends_close}
 use Rattle.selector_parse.proofs.Heads.{selector_read, starts_selector, head_opens, quiet_head}
 use Rattle.selector_parse.proofs.Whole.{Ends, moves-append, SimpleIs, simple_is, gap_is, gap_read_some, whole_go, Inner, inside_inner, opens_paren, open_first, first_unstopped, first_stuck, no_one, commented_run, run_back, run_pair, trailing_last, fresh_unblank, blank_41, args_read, args_close, fresh_open}
+use Rattle.selector_parse.proofs.Judged.{selects, passes}
 
 pub quiet_by : (p : Phase) (t y : List ℕ) (h : SimpleIs p t) → head_opens y ≡ true → Stuck h.last y
 quiet_by p t y h o = quiet_head h.last y (selector_read t h.from h.last (starts_selector p h.from h.start) h.reads) h.final o
 
--- a simple selector, and arguments behind it
+-- a simple selector, and arguments after it
 simple_leads : (d : ℕ) (p : Phase) (t y : List ℕ) → is_simple p t ≡ true → Inner y → Moves d p Inside t y
 simple_leads d p t y e i = let h = simple_is p t e in
     λ m w k. (in_simple h.last t, (simple_moves d p m h.from h.last t y w k h.start h.reads h.final, h.final, (quiet_by p t y h i.opens, ap (λ b. takes_args t && b) i.bare ∙ nothing (takes_args t))))
@@ -174,7 +177,7 @@ accepted Fresh m e w = absurd (false≢true e)
 accepted Open m e w = absurd (false≢true e)
 accepted Commented m e w = absurd (false≢true e)
 
-pub follows : (s : List ℕ) (x : Tree) → Selects s x → (m : Place) × ((follow 0 (at_start false) s ≡ Some (0, m)) × (accepts 0 m ≡ true))
+pub follows : (s : List ℕ) (x : Tree) → Passes s x → (m : Place) × ((follow 0 (at_start false) s ≡ Some (0, m)) × (accepts 0 m ≡ true))
 follows s x h =
     let n = tree_leads 0 0 Fresh h.last x [] h.are h.ends tt (at_start false) tt (λ e. absurd (false≢true e)) in
     (n.0, (ap (follow 0 (at_start false)) (sym h.text) ∙ n.1.0, accepted h.last n.0 h.ends n.1.1))
@@ -187,28 +190,32 @@ go_blocked s (c ∷ cs) n b f a = nothing (sym (ap (λ o. on o (λ s. follow s.0
     nothing : ◌≡◌ {A = Option Stand} None (Some n) → ⊥
     nothing e = cc
 
+stuck_on : (s : Stand) (back : List ℕ) (c : ℕ) (rest more : List ℕ) → back ≡ c ∷ rest → Blocked s.0 s.1 back → Blocked s.0 s.1 (c ∷ more)
+stuck_on s back c rest more e b = subst (Blocked s.0 s.1) e b
+
+pub blocked_fault : (front back more : List ℕ) (parts : Tree) (s : Stand) → Selects (front ++ more) parts → follow 0 (at_start false) front ≡ Some s → Blocked s.0 s.1 back → IsFault (front ++ back) (byte_len front)
+blocked_fault front back more parts s h g b = record {
+  none = λ x k.
+      let f = follows (front ++ back) x (passes (front ++ back) x k) in
+      go_blocked s back (0, f.0) b (sym (follow-append 0 (at_start false) front back s g) ∙ f.1.0) f.1.1;
+  longest = record {
+    front = front;
+    back = back;
+    text = refl;
+    size = refl;
+    begins = (more, (parts, h));
+    no_more = λ c rest z k.
+        let f = follows ((front ++ c ∷ []) ++ k.0) k.1.0 (passes ((front ++ c ∷ []) ++ k.0) k.1.0 k.1.1) in
+        go_blocked s (c ∷ k.0) (0, f.0) (stuck_on s back c rest k.0 z b) (sym (follow-append 0 (at_start false) front (c ∷ k.0) s g) ∙ ap (follow 0 (at_start false)) (sym (append_assoc front (c ∷ []) k.0)) ∙ f.1.0) f.1.1;
+  };
+}
+
 pub halt_fault : (bs : List ℕ) (e : ℕ) → IsUtf8 bs → IsHalt bs 0 0 Fresh e → IsFault (chars bs) e
 halt_fault bs e u h =
     let is : chars bs ≡ h.front ++ h.back = chars_of bs (h.front ++ h.back) u h.text in
     let b = h.blocked (at_start false) tt (λ e. absurd (false≢true e)) in
-    record {
-      none = λ x k.
-          let f = follows (chars bs) x k in
-          go_blocked b.0 h.back (0, f.0) b.1.1 (sym (follow-append 0 (at_start false) h.front h.back b.0 b.1.0) ∙ ap (follow 0 (at_start false)) (sym is) ∙ f.1.0) f.1.1;
-      longest = record {
-        front = h.front;
-        back = h.back;
-        text = is;
-        size = h.size ∙ zero-add (byte_len h.front);
-        begins = (h.more, (h.parts, record { text = h.goes; last = h.last; ends = h.ends; are = h.are }));
-        no_more = λ c rest z k.
-            let f = follows ((h.front ++ c ∷ []) ++ k.0) k.1.0 k.1.1 in
-            go_blocked b.0 (c ∷ k.0) (0, f.0) (stuck_on b.0 h.back c rest k.0 z b.1.1) (sym (follow-append 0 (at_start false) h.front (c ∷ k.0) b.0 b.1.0) ∙ ap (follow 0 (at_start false)) (sym (append_assoc h.front (c ∷ []) k.0)) ∙ f.1.0) f.1.1;
-      };
-    }
-  where
-    stuck_on : (s : Stand) (back : List ℕ) (c : ℕ) (rest more : List ℕ) → back ≡ c ∷ rest → Blocked s.0 s.1 back → Blocked s.0 s.1 (c ∷ more)
-    stuck_on s back c rest more e b = subst (Blocked s.0 s.1) e b
+    let p = selects (h.front ++ h.more) h.parts (record { text = h.goes; last = h.last; ends = h.ends; are = h.are }) in
+    subst (λ s. IsFault s e) (sym is) (subst (λ n. IsFault (h.front ++ h.back) n) (sym (h.size ∙ zero-add (byte_len h.front))) (blocked_fault h.front h.back h.more h.parts b.0 p b.1.0 b.1.1))
 
 pub halt_within : (bs : List ℕ) (e : ℕ) → IsHalt bs 0 0 Fresh e → e ≤ length bs
 halt_within bs e h =
@@ -229,9 +236,9 @@ pub ended_selects : (bs : List ℕ) (e : ℕ) (x : Tree) → IsUtf8 bs → IsEnd
 ended_selects bs e x u h s =
     let l : length bs ≤ e = leb-true (length bs) e (at_end (nat_le (length bs) e) (nat_lt 0 0) (eqb (get_or bs e 0) 41) s refl) in
     let z : h.row.ahead ≡ [] = nothing_left h.row.ahead (sym (drop_all e bs l) ∙ h.row.here) in
-    record {
+    selects (chars bs) x (record {
       text = sym (append-nil (written x)) ∙ ap (λ y. written x ++ y) (sym z) ∙ sym (chars_of bs (written x ++ h.row.ahead) u h.row.text);
       last = h.last;
       ends = h.ends;
       are = h.row.are;
-    }
+    })

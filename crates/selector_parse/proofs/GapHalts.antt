@@ -14,7 +14,7 @@ use Rattle.selector_parse.specs.declared.reading.Reading.{Reading}
 use Rattle.selector_parse.specs.declared.reading.Reading.TheVariants.{Done, Blank, Slash, Note, NoteStar}
 use Rattle.selector_parse.specs.Reading.{step, read}
 use Rattle.selector_parse.specs.Tree.{Tree, none, gap, simple, GapKind, blank as blank_gap, comment, combinator, written}
-use Rattle.selector_parse.specs.Grammar.{gap_read, gap_of, is_blanks, is_done, is_some_text, gap_next, comment_next, if_so, may_end, Are}
+use Rattle.selector_parse.specs.Phases.{gap_read, gap_of, is_blanks, is_done, is_some_text, gap_next, comment_next, if_so, may_end, Are}
 use Rattle.selector_parse.specs.Machine.{Place, at_start, in_gap, in_simple, in_text, Stand, follow, Blocked, Stuck, Matches, Calm}
 use Rattle.selector_parse.specs.Row.{IsHalt, takes_gap}
 use Rattle.selector_parse.proofs.Scanned.{Scanned}
@@ -24,7 +24,7 @@ use Rattle.selector_parse.proofs.Gaps.{is_run, run_read}
 use Rattle.selector_parse.proofs.Rows.{no_length}
 use Rattle.selector_parse.proofs.Moves.{some_same, read_head, leads, gap_moves, follow_gap, one, as_run, one_step, one_read}
 
--- parts that a gap begins, and what they have behind it
+-- parts that a gap begins, and what they have after it
 record Ends (depth at : ℕ) (p : Phase) (t : List ℕ) : Type 0 where
   pub parts : Tree
   pub more : List ℕ
@@ -114,7 +114,7 @@ one_stays : (cs : List ℕ) (q p : Reading) → one q ≡ true → read q cs ≡
 one_stays [] q p o e = ap one (sym (some_same q p e)) ∙ o
 one_stays (c ∷ cs) q p o e = let h = read_head q p c cs e in one_stays cs h.0 p (one_step q h.0 c o h.1.0).one h.1.1
 
--- behind its slash
+-- after its slash
 abbrev begun : Reading → Bool
 begun (Slash One) = true
 begun (Note One) = true

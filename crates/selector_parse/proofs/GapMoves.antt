@@ -10,7 +10,7 @@ use Rattle.selector_parse.specs.declared.reading.Reading.{Reading}
 use Rattle.selector_parse.specs.declared.reading.Reading.TheVariants.{First, Blank}
 use Rattle.selector_parse.specs.Reading.{read, scan_last}
 use Rattle.selector_parse.specs.Tree.{GapKind, blank as blank_gap, comment, combinator}
-use Rattle.selector_parse.specs.Grammar.{gap_read, gap_of, is_blanks, is_some_text, gap_next}
+use Rattle.selector_parse.specs.Phases.{gap_read, gap_of, is_blanks, is_some_text, gap_next}
 use Rattle.selector_parse.specs.Machine.{Place, at_start, in_gap, in_simple, in_text, or_else, pop, begin, follow, Stuck, blank_list, text_stops, open_stops, Matches, Calm, Moves}
 use Rattle.selector_parse.proofs.Moves.{some_same, read_head, moved, follow_gap, gap_begun, gap_moves, if_so_parts, none_some, sign_some, gap_gaps, gap_matches, run_last, run_after}
 

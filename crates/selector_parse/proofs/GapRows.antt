@@ -13,7 +13,7 @@ use Rattle.selector_parse.specs.declared.reading.Reading.{Reading}
 use Rattle.selector_parse.specs.declared.reading.Reading.TheVariants.{Blank}
 use Rattle.selector_parse.specs.Reading.{read, scan_len, scan_last}
 use Rattle.selector_parse.specs.Tree.{none, made, absent}
-use Rattle.selector_parse.specs.Grammar.{is_some_text, is_blanks}
+use Rattle.selector_parse.specs.Phases.{is_some_text, is_blanks}
 use Rattle.selector_parse.specs.Machine.{text_stops}
 use Rattle.selector_parse.specs.Row.{IsRow, IsInsideRun, gap_choice, takes_gap, stops}
 use Rattle.selector_parse.proofs.Scanned.{Scanned}

@@ -11,9 +11,10 @@ use Rattle.selector_parse.specs.declared.reading.Gap.{Gap}
 use Rattle.selector_parse.specs.declared.reading.Gap.TheVariants.{One, Comments, Spaced, Symbol}
 use Rattle.selector_parse.specs.declared.reading.Reading.{Reading}
 use Rattle.selector_parse.specs.declared.reading.Reading.TheVariants.{First, Next, ElementName, ElementEscape, Star, Bar, Colon, NameFirst, Name, NameEscape, Done, Text, TextEscape, Quoted, QuotedEscape, Blank, Slash, Note, NoteStar}
-use Rattle.selector_parse.specs.Reading.{is_symbol, step, on, read}
+use Rattle.selector_parse.specs.Forms.{is_symbol}
+use Rattle.selector_parse.specs.Reading.{step, on, read}
 use Rattle.selector_parse.specs.Tree.{GapKind, blank as blank_gap, comment, combinator, none, gap, absent, made}
-use Rattle.selector_parse.specs.Grammar.{gap_of, is_blanks, is_done, is_some_text, if_so, comment_next, gap_next}
+use Rattle.selector_parse.specs.Phases.{gap_of, is_blanks, is_done, is_some_text, if_so, comment_next, gap_next}
 use Rattle.selector_parse.specs.Row.{gap_choice, takes_gap}
 
 -- a reading of blanks and signs, of no single comment

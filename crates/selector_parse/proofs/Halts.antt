@@ -12,10 +12,10 @@ use Rattle.selector_parse.specs.declared.reading.Gap.TheVariants.{Comments}
 use Rattle.selector_parse.specs.declared.reading.Reading.{Reading}
 use Rattle.selector_parse.specs.declared.reading.Reading.TheVariants.{Blank}
 use Rattle.selector_parse.specs.Reading.{step, read, is_final, scan_len}
-use Rattle.selector_parse.specs.Tree.{Tree, none, comma, simple, plain, nested, written, followed, Arguments, absent, text, list, enclosed}
-use Rattle.selector_parse.specs.Grammar.{kind_of, is_simple, is_whole, simple_read, starts, may_end, Are}
+use Rattle.selector_parse.specs.Tree.{Tree, none, comma, simple, plain, nested, written, Arguments, absent, text, list}
+use Rattle.selector_parse.specs.Phases.{kind_of, is_simple, is_whole, simple_read, starts, may_end, Are}
 use Rattle.selector_parse.specs.Machine.{Place, at_start, in_gap, in_simple, in_text, Stand, follow, Blocked, Stuck, Matches, Calm, text_stops}
-use Rattle.selector_parse.specs.Row.{IsRow, IsEnded, IsHalt, IsNameHalt, Fit, takes_gap}
+use Rattle.selector_parse.specs.Row.{IsRow, IsEnded, IsHalt, IsNameHalt, Fit, takes_gap, followed, enclosed}
 use Rattle.selector_parse.proofs.Scanned.{Scanned}
 use Rattle.selector_parse.proofs.Finish.{finish, made_whole, finish_final}
 use Rattle.selector_parse.proofs.Idle.{idle, simple_halts}
@@ -33,7 +33,7 @@ use Rattle.selector_parse.proofs.Bytes.{scan_len-bytes}
 use Rattle.selector_parse.proofs.Lists.{comma_row}
 use Rattle.selector_parse.proofs.Rows.{row_append, byte_begins, followed-written, followed-are}
 
--- behind parts that have been read
+-- after parts that have been read
 pub row_halt : (bs : List ℕ) (start mid depth e : ℕ) (p m : Phase) (x : Tree) → IsRow bs start depth p x m mid → IsHalt bs mid depth m e → start ≤ length bs → IsHalt bs start depth p e
 row_halt bs start mid depth e p m x a h l =
     let is : a.ahead ≡ h.front ++ h.back = encodes_same a.ahead (h.front ++ h.back) (sym a.here ∙ h.text) in

@@ -10,8 +10,9 @@ use Rattle.selector_parse.specs.declared.reading.Gap.TheVariants.{Comments}
 use Rattle.selector_parse.specs.declared.reading.Within.TheVariants.{Brackets, Parentheses}
 use Rattle.selector_parse.specs.declared.reading.Reading.{Reading}
 use Rattle.selector_parse.specs.declared.reading.Reading.TheVariants.{First, Next, ElementName, ElementEscape, Star, Bar, Colon, NameFirst, Name, NameEscape, Done, Text, TextEscape, Quoted, QuotedEscape, Blank, Slash, Note, NoteStar}
-use Rattle.selector_parse.specs.Reading.{is_name, is_break, unit, hidden, next, before_symbol, quote, step, read, is_final}
-use Rattle.selector_parse.specs.Grammar.{starts}
+use Rattle.selector_parse.specs.Forms.{is_name_char, is_break}
+use Rattle.selector_parse.specs.Reading.{unit, hidden, next, before_symbol, quote, step, read, is_final}
+use Rattle.selector_parse.specs.Phases.{starts}
 use Rattle.selector_parse.specs.Machine.{Stuck}
 use Rattle.selector_parse.proofs.High.{step-past}
 use Rattle.selector_parse.proofs.Moves.{some_same, read_head}
@@ -41,7 +42,7 @@ stays-cond true x y e f = e
 stays-cond false x y e f = f
 
 unit_stays : (p q : Reading) (c : ℕ) → is_selector p ≡ true → is_selector q ≡ true → stays (unit p q c) ≡ true
-unit_stays p q c e f = stays-cond (is_name c) _ _ e (stays-cond (eqb c 92) _ _ f refl)
+unit_stays p q c e f = stays-cond (is_name_char c) _ _ e (stays-cond (eqb c 92) _ _ f refl)
 
 hidden_stays : (p : Reading) (c : ℕ) → is_selector p ≡ true → stays (hidden p c) ≡ true
 hidden_stays p c e = stays-cond (is_break c) _ _ refl e
@@ -51,7 +52,7 @@ next_stays c = stays-cond (eqb c 35 || eqb c 46) _ _ refl (stays-cond (eqb c 58)
 
 selector_step : (q : Reading) (c : ℕ) → is_selector q ≡ true → stays (step q c) ≡ true
 unfolding step
-selector_step First c e = stays-cond (is_name c) _ _ refl (stays-cond (eqb c 92) _ _ refl (stays-cond (eqb c 42) _ _ refl (stays-cond (eqb c 124) _ _ refl (next_stays c))))
+selector_step First c e = stays-cond (is_name_char c) _ _ refl (stays-cond (eqb c 92) _ _ refl (stays-cond (eqb c 42) _ _ refl (stays-cond (eqb c 124) _ _ refl (next_stays c))))
 selector_step Next c e = next_stays c
 selector_step ElementName c e = stays-cond (eqb c 124) _ _ refl (unit_stays ElementName ElementEscape c refl refl)
 selector_step ElementEscape c e = hidden_stays ElementName c refl
@@ -86,12 +87,12 @@ starts_selector Inside q e = ap is_selector (sym (some_same Next q e))
 starts_selector Commented q e = ap is_selector (sym (some_same Next q e))
 starts_selector Trailing q e = cc
 
--- what may stand behind a simple selector
+-- what may stand after a simple selector
 abbrev pub opens : ℕ → Bool
 opens c = is_some (before_symbol Comments c) || (is_some (next c) || (eqb c 44 || (eqb c 41 || eqb c 40)))
 
 abbrev goes_on : ℕ → Bool
-goes_on c = (is_name c || (eqb c 92 || eqb c 124)) && opens c
+goes_on c = (is_name_char c || (eqb c 92 || eqb c 124)) && opens c
 
 none_go_on : (c : ℕ) → c < 128 → goes_on c ≡ false
 unfolding is_space
@@ -101,9 +102,9 @@ high_opens : (c : ℕ) → 128 ≤ c → opens c ≡ false
 unfolding step
 high_opens c h = rw (step-past c h (Blank Comments), step-past c h Next, ne_eqb c 44 (λ e. omega arith), ne_eqb c 41 (λ e. omega arith), ne_eqb c 40 (λ e. omega arith)) refl
 
-name_parts : (c : ℕ) → opens c ≡ true → (is_name c ≡ false) × (eqb c 92 ≡ false) × (eqb c 124 ≡ false)
+name_parts : (c : ℕ) → opens c ≡ true → (is_name_char c ≡ false) × (eqb c 92 ≡ false) × (eqb c 124 ≡ false)
 name_parts c o = elim (cases_lt c 128) [
-  | inl l ↦ go (is_name c) (eqb c 92) (eqb c 124) (opens c) (none_go_on c l) o
+  | inl l ↦ go (is_name_char c) (eqb c 92) (eqb c 124) (opens c) (none_go_on c l) o
   | inr h ↦ absurd (false≢true (sym (high_opens c h) ∙ o))
 ]
   where

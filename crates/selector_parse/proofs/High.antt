@@ -9,7 +9,8 @@ use Rattle.selector_parse.specs.declared.reading.Within.{Within}
 use Rattle.selector_parse.specs.declared.reading.Within.TheVariants.{Brackets, Parentheses}
 use Rattle.selector_parse.specs.declared.reading.Reading.{Reading}
 use Rattle.selector_parse.specs.declared.reading.Reading.TheVariants.{First, Next, ElementName, ElementEscape, Star, Bar, Colon, NameFirst, Name, NameEscape, Done, Text, TextEscape, Quoted, QuotedEscape, Blank, Slash, Note, NoteStar}
-use Rattle.selector_parse.specs.Reading.{is_name, is_break, is_symbol, unit, hidden, next, blank, before_symbol, within, quote, step}
+use Rattle.selector_parse.specs.Forms.{is_name_char, is_break, is_symbol}
+use Rattle.selector_parse.specs.Reading.{unit, hidden, next, blank, before_symbol, within, quote, step}
 
 -- what a character past ASCII gives
 abbrev pub past : Reading → Option Reading
@@ -33,7 +34,7 @@ module _ (c : ℕ) (h : 128 ≤ c) where
   no : (k : ℕ) → k < 128 → eqb c k ≡ false
   no k l = ne_eqb c k (λ e. omega arith)
 
-  name : is_name c ≡ true
+  name : is_name_char c ≡ true
   name = grind (arith, nat_tests)
 
   unbroken : is_break c ≡ false

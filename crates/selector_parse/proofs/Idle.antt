@@ -11,13 +11,16 @@ use Rattle.selector_parse.specs.declared.reading.Gap.TheVariants.{Comments, Spac
 use Rattle.selector_parse.specs.declared.reading.Reading.{Reading}
 use Rattle.selector_parse.specs.declared.reading.Within.TheVariants.{Parentheses}
 use Rattle.selector_parse.specs.declared.reading.Reading.TheVariants.{First, Next, Done, Text, Blank, Slash}
-use Rattle.selector_parse.specs.Reading.{is_symbol, step, on, or_on, is_final, scan_last}
-use Rattle.selector_parse.specs.Grammar.{takes_args, takes_list, gap_read, is_blanks, starts, may_end, most_depth}
+use Rattle.selector_parse.specs.Forms.{is_symbol}
+use Rattle.selector_parse.specs.Reading.{step, on, or_on, is_final, scan_last}
+use Rattle.selector_parse.specs.Names.{takes_args, takes_list}
+use Rattle.selector_parse.specs.Grammar.{most_depth}
+use Rattle.selector_parse.specs.Phases.{gap_read, is_blanks, starts, may_end}
 use Rattle.selector_parse.specs.Machine.{Place, at_start, in_gap, in_simple, in_text, or_else, pop, enders, begin, begin_gap, opener, closer, gap_end, simple_end, open_args, move, accepts, Blocked, Stuck, Matches, Calm, after_run, blank_list, text_stops, open_stops}
 use Rattle.selector_parse.specs.Row.{takes_gap}
 use Rattle.selector_parse.proofs.Scanned.{read_scan}
 use Rattle.selector_parse.proofs.Gaps.{far_read}
-use Rattle.selector_parse.proofs.Moves.{some_same, behind_simple, behind_gap_end, stuck_last, stuck_len}
+use Rattle.selector_parse.proofs.Moves.{some_same, after_simple, after_gap_end, stuck_last, stuck_len}
 
 enders_none : (d c : ℕ) (cs : List ℕ) → text_stops d (c ∷ cs) ≡ false → enders d c ≡ None
 enders_none d c cs h = go (eqb c 44) (eqb c 41) d h
@@ -45,7 +48,7 @@ start_blocked d f c cs b n k = ap (λ o. or_else o (or_else (begin First d c) (c
     go true k = ap (λ x. cond x (pop d) None) (sym (blank_here c cs b) ∙ k refl)
 
 gap_blocked : (d : ℕ) (l f : Bool) (q : Reading) (g : Gap) (c : ℕ) (cs : List ℕ) → step q c ≡ None → gap_read (Some q) ≡ Some g → step (opener l g) c ≡ None → open_stops d l f q (c ∷ cs) ≡ false → move d (in_gap l f q) c ≡ None
-gap_blocked d l f q g c cs s r n k = behind_gap_end d l f q g c s r ∙ ap (λ o. or_else o (closer l f g d c)) (no_begin d c (opener l g) n) ∙ go l k
+gap_blocked d l f q g c cs s r n k = after_gap_end d l f q g c s r ∙ ap (λ o. or_else o (closer l f g d c)) (no_begin d c (opener l g) n) ∙ go l k
   where
     stops_so : (b : Bool) → (b && text_stops d (c ∷ cs)) ≡ false → cond b (enders d c) None ≡ None
     stops_so true h = enders_none d c cs h
@@ -65,7 +68,7 @@ gap_unended zero false f q k = go (is_blanks (gap_read (Some q))) k
     go false k = refl
 
 simple_blocked : (d : ℕ) (q : Reading) (t : List ℕ) (c : ℕ) (cs : List ℕ) → step q c ≡ None → is_final q ≡ true → step (Blank Comments) c ≡ None → step Next c ≡ None → (takes_args t && eqb c 40) ≡ false → text_stops d (c ∷ cs) ≡ false → move d (in_simple q t) c ≡ None
-simple_blocked d q t c cs s f b n a k = behind_simple d q t c s f ∙ ap (λ o. or_else o (or_else (begin Next d c) (cond (eqb c 40) (open_args d t) (enders d c)))) (no_gap false false d c b)
+simple_blocked d q t c cs s f b n a k = after_simple d q t c s f ∙ ap (λ o. or_else o (or_else (begin Next d c) (cond (eqb c 40) (open_args d t) (enders d c)))) (no_gap false false d c b)
     ∙ ap (λ o. or_else o (cond (eqb c 40) (open_args d t) (enders d c))) (no_begin d c Next n) ∙ go (takes_args t) (eqb c 40) a
   where
     go : (x y : Bool) → (x && y) ≡ false → cond y (cond (x && nat_lt d most_depth) (cond (takes_list t) (Some (suc d, at_start true)) (Some (d, in_text (Text (Parentheses 0 (most_depth - suc d)))))) None) (enders d c) ≡ None
@@ -73,7 +76,7 @@ simple_blocked d q t c cs s f b n a k = behind_simple d q t c s f ∙ ap (λ o. 
     go false true h = refl
     go x false h = enders_none d c cs k
 
--- behind comments alone stands nothing that goes on in them
+-- after comments alone stands nothing that goes on in them
 run_go : (c : ℕ) (cs : List ℕ) (a b e : Bool) → a ≡ false → or_on (cond a (Some (Slash Comments)) (cond b (Some (Blank Spaced)) (cond e (Some (Blank Symbol)) None))) (Blank Comments) (λ p. scan_last p cs) ≡ Blank Comments
     → cond a (Some (Slash Comments)) (cond b (Some (Blank Spaced)) (cond e (Some (Blank Symbol)) None)) ≡ None
 run_go c cs true b e f h = absurd (true≢false f)

@@ -11,12 +11,10 @@ use Rattle.selector_parse.specs.declared.part.PartKind.{PartKind}
 use Rattle.selector_parse.specs.declared.part.PartKind.TheVariants.{Element, Id, Class, Attribute, Nesting}
 use Rattle.std.specs.Str.{chars, IsUtf8}
 use Rattle.std.proofs.lemmas.Str.{encodes-chars}
-use Rattle.selector_parse.specs.declared.reading.Reading.TheVariants.{First}
-use Rattle.selector_parse.specs.Reading.{scan_last}
-use Rattle.selector_parse.specs.Worth.{is_star, names_all, is_where}
-use Rattle.selector_parse.proofs.Bytes.{scan_last-bytes}
+use Rattle.selector_parse.specs.Worth.{is_where}
 use Rattle.selector_parse.specs.Tree.{Tree, simple, bare}
-use Rattle.selector_parse.specs.Grammar.{spelled, is_legacy, is_logical, pseudo_kind, kind_of, takes_list}
+use Rattle.selector_parse.specs.Names.{spelled, is_legacy, is_logical, takes_list}
+use Rattle.selector_parse.specs.Phases.{pseudo_kind, kind_of}
 
 lower-high : (c w : ℕ) → 128 ≤ c → w < 128 → eqb (to_ascii_lowercase c) w ≡ false
 lower-high c w h l = rw (le-ltb c 65 (omega arith), le-ltb c 91 (omega arith)) (ne_eqb c w (λ e. omega arith))
@@ -113,7 +111,3 @@ where_chars bs u = ap is_where (sym (encodes-chars bs u)) ∙ where-bytes (chars
 
 pub list_chars : (bs : List ℕ) → IsUtf8 bs → takes_list bs ≡ takes_list (chars bs)
 list_chars bs u = ap takes_list (sym (encodes-chars bs u)) ∙ list-bytes (chars bs)
-
-pub all_chars : (bs : List ℕ) → IsUtf8 bs → is_star (scan_last First bs) ≡ names_all (chars bs)
-unfolding names_all
-all_chars bs u = ap (λ s. is_star (scan_last First s)) (sym (encodes-chars bs u)) ∙ ap is_star (scan_last-bytes First (chars bs))

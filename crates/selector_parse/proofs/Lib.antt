@@ -26,4 +26,11 @@ pub mod Follows
 pub mod Unique
 pub mod Signs
 pub mod Words
+pub mod NameForms
+pub mod TextForms
+pub mod BlankForms
+pub mod SignForms
+pub mod SimpleForms
+pub mod Stars
+pub mod Judged
 pub mod Sizes

@@ -15,10 +15,10 @@ use Rattle.selector_parse.specs.declared.reading.Gap.TheVariants.{Comments, Spac
 use Rattle.selector_parse.specs.declared.reading.Reading.{Reading}
 use Rattle.selector_parse.specs.declared.reading.Reading.TheVariants.{Blank}
 use Rattle.selector_parse.specs.Reading.{is_final, read, scan_len, scan_last}
-use Rattle.selector_parse.specs.Tree.{Tree, none, comma, followed, complex_before}
-use Rattle.selector_parse.specs.Grammar.{may_end, is_blanks, gap_read, starts}
+use Rattle.selector_parse.specs.Tree.{Tree, none, comma, complex_before}
+use Rattle.selector_parse.specs.Phases.{may_end, is_blanks, gap_read, starts}
 use Rattle.selector_parse.specs.Machine.{at_start, after_run, blank_list}
-use Rattle.selector_parse.specs.Row.{IsRow, IsEnded, list_parts, reads_blanks, is_blank_list}
+use Rattle.selector_parse.specs.Row.{IsRow, IsEnded, list_parts, reads_blanks, is_blank_list, followed}
 use Rattle.selector_parse.proofs.Scanned.{Scanned, scanned}
 use Rattle.selector_parse.proofs.Moves.{moved, run_last, run_after, starts_open, some_same}
 use Rattle.selector_parse.proofs.Rows.{row_append, byte_begins, behind, one_byte}
@@ -49,7 +49,7 @@ ended_append bs start mid end depth x y a b c =
       ends = c.ends;
     }
 
--- behind a comma
+-- after a comma
 pub comma_boundary : (bs : List ℕ) (start mid depth : ℕ) (x : Tree) → IsEnded bs start depth x mid → get_or bs mid 0 ≡ 44 → IsCharBoundary bs (mid + 1)
 comma_boundary bs start mid depth x a b =
     let f : IsFrom bs mid a.row.ahead = record { fits = a.row.fits; text = a.row.here } in

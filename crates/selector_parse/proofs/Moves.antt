@@ -1,4 +1,4 @@
--- Each part leads the reader from where it stands before the part to where it stands behind it.
+-- Each part leads the reader from where it stands before the part to where it stands after it.
 use Rattle.std.proofs.Common.{◌≡◌, ℕ, suc, ◌<◌, Bool, true, false, cond, eqb, List, [], ◌∷◌, ◌++◌, drop, Option, Some, None, refl, ap, sym, ◌∙◌, subst, inl, inr, append-nil, append_assoc}
 use Rattle.std.specs.Prelude.{◌&&◌}
 use Rattle.std.specs.Option.{is_some}
@@ -12,7 +12,7 @@ use Rattle.selector_parse.specs.declared.reading.Reading.{Reading}
 use Rattle.selector_parse.specs.declared.reading.Reading.TheVariants.{First, Next, ElementName, ElementEscape, Star, Bar, Colon, NameFirst, Name, NameEscape, Done, Text, TextEscape, Quoted, QuotedEscape, Blank, Slash, Note, NoteStar}
 use Rattle.selector_parse.specs.Reading.{first, next, before_symbol, step, on, or_on, read, is_final, scan_len, scan_last}
 use Rattle.selector_parse.specs.Tree.{GapKind, blank as blank_gap, comment, combinator}
-use Rattle.selector_parse.specs.Grammar.{gap_read, gap_of, is_blanks, is_done, is_comment, is_some_text, if_so, combinator_next, comment_next, starts, gap_next}
+use Rattle.selector_parse.specs.Phases.{gap_read, gap_of, is_blanks, is_done, is_comment, is_some_text, if_so, combinator_next, comment_next, starts, gap_next}
 use Rattle.selector_parse.specs.Row.{takes_gap}
 use Rattle.selector_parse.specs.Machine.{Place, at_start, in_gap, in_simple, in_text, Stand, or_else, pop, enders, begin, begin_gap, opener, closer, gap_end, simple_end, open_args, move, follow, Stuck, after_run, text_stops, Matches, Calm}
 use Rattle.selector_parse.proofs.High.{step-past}
@@ -65,7 +65,7 @@ follow_go d m c cs s (Some n) e f = (n, (e, f))
 pub follow_head : (d : ℕ) (m : Place) (c : ℕ) (cs : List ℕ) (s : Stand) → follow d m (c ∷ cs) ≡ Some s → (n : Stand) × ((move d m c ≡ Some n) × (follow n.0 n.1 cs ≡ Some s))
 follow_head d m c cs s e = follow_go d m c cs s (move d m c) refl e
 
--- a text, and another behind it
+-- a text, and another after it
 pub follow-append : (d : ℕ) (m : Place) (xs ys : List ℕ) (s : Stand) → follow d m xs ≡ Some s → follow d m (xs ++ ys) ≡ follow s.0 s.1 ys
 follow-append d m [] ys s e = let f : ◌≡◌ {A = Stand} (d, m) s = some_same (d, m) s e in ap (λ s. follow s.0 s.1 ys) f
 follow-append d m (c ∷ cs) ys s e = let h = follow_head d m c cs s e in moved d m c (cs ++ ys) h.0 h.1.0 ∙ follow-append h.0.0 h.0.1 cs ys s h.1.1
@@ -103,17 +103,17 @@ gap_begun l f d c r e = ap (λ o. on o (λ p. Some (d, in_gap l f p))) e
 no_gap : (l f : Bool) (d c : ℕ) → step (Blank Comments) c ≡ None → begin_gap l f d c ≡ None
 no_gap l f d c e = ap (λ o. on o (λ p. Some (d, in_gap l f p))) e
 
--- behind a gap that ends before the character
-pub behind_gap_end : (d : ℕ) (l f : Bool) (q : Reading) (g : Gap) (c : ℕ) → step q c ≡ None → gap_read (Some q) ≡ Some g → move d (in_gap l f q) c ≡ gap_end l f (Some g) d c
-behind_gap_end d l f q g c e r = ap (λ o. or_else (on o (λ p. Some (d, in_gap l f p))) (gap_end l f (gap_read (Some q)) d c)) e ∙ ap (λ o. gap_end l f o d c) r
+-- after a gap that ends before the character
+pub after_gap_end : (d : ℕ) (l f : Bool) (q : Reading) (g : Gap) (c : ℕ) → step q c ≡ None → gap_read (Some q) ≡ Some g → move d (in_gap l f q) c ≡ gap_end l f (Some g) d c
+after_gap_end d l f q g c e r = ap (λ o. or_else (on o (λ p. Some (d, in_gap l f p))) (gap_end l f (gap_read (Some q)) d c)) e ∙ ap (λ o. gap_end l f o d c) r
 
-behind_gap : (d : ℕ) (l f : Bool) (q : Reading) (g : Gap) (c : ℕ) (s : Stand) → step q c ≡ None → gap_read (Some q) ≡ Some g → begin (opener l g) d c ≡ Some s → move d (in_gap l f q) c ≡ Some s
-behind_gap d l f q g c s e r b = ap (λ o. or_else (on o (λ p. Some (d, in_gap l f p))) (gap_end l f (gap_read (Some q)) d c)) e
+after_gap : (d : ℕ) (l f : Bool) (q : Reading) (g : Gap) (c : ℕ) (s : Stand) → step q c ≡ None → gap_read (Some q) ≡ Some g → begin (opener l g) d c ≡ Some s → move d (in_gap l f q) c ≡ Some s
+after_gap d l f q g c s e r b = ap (λ o. or_else (on o (λ p. Some (d, in_gap l f p))) (gap_end l f (gap_read (Some q)) d c)) e
     ∙ ap (λ o. gap_end l f o d c) r ∙ ap (λ o. or_else o (closer l f g d c)) b
 
--- behind a simple selector that ends before the character
-pub behind_simple : (d : ℕ) (q : Reading) (t : List ℕ) (c : ℕ) → step q c ≡ None → is_final q ≡ true → move d (in_simple q t) c ≡ simple_end d t c
-behind_simple d q t c e f = ap (λ o. or_else (on o (λ p. Some (d, in_simple p (t ++ c ∷ [])))) (cond (is_final q) (simple_end d t c) None)) e ∙ ap (λ b. cond b (simple_end d t c) None) f
+-- after a simple selector that ends before the character
+pub after_simple : (d : ℕ) (q : Reading) (t : List ℕ) (c : ℕ) → step q c ≡ None → is_final q ≡ true → move d (in_simple q t) c ≡ simple_end d t c
+after_simple d q t c e f = ap (λ o. or_else (on o (λ p. Some (d, in_simple p (t ++ c ∷ [])))) (cond (is_final q) (simple_end d t c) None)) e ∙ ap (λ b. cond b (simple_end d t c) None) f
 
 -- a simple selector begins where one may
 pub simple_begins : (d : ℕ) (p : Phase) (m : Place) (q0 r : Reading) (c : ℕ) (s : List ℕ) → Matches p m → Calm d p m (c ∷ s) → starts p ≡ Some q0 → step q0 c ≡ Some r → move d m c ≡ Some (d, in_simple r (c ∷ []))
@@ -121,14 +121,14 @@ simple_begins d Fresh (at_start f) q0 r c s m k h e =
     let e1 : step First c ≡ Some r = ap (λ q. step q c) (some_same First q0 h) ∙ e in
     ap (λ o. or_else o (or_else (begin First d c) (cond (f && eqb c 41) (pop d) None))) (no_gap true f d c (begins_first c r e1)) ∙ ap (λ o. or_else o (cond (f && eqb c 41) (pop d) None)) (begun d c First r e1)
 simple_begins d Open (in_gap l f q) q0 r c s m k h e =
-    behind_gap d l f q m.0 c (d, in_simple r (c ∷ [])) k.0 m.1.0 (ap (λ q. begin q d c) (m.1.1 ∙ some_same First q0 h) ∙ begun d c q0 r e)
+    after_gap d l f q m.0 c (d, in_simple r (c ∷ [])) k.0 m.1.0 (ap (λ q. begin q d c) (m.1.1 ∙ some_same First q0 h) ∙ begun d c q0 r e)
 simple_begins d Inside (in_simple q t) q0 r c s m k h e =
     let e1 : step Next c ≡ Some r = ap (λ q. step q c) (some_same Next q0 h) ∙ e in
-    behind_simple d q t c k.0 m ∙ ap (λ o. or_else o (or_else (begin Next d c) (cond (eqb c 40) (open_args d t) (enders d c)))) (no_gap false false d c (begins_next c r e1))
+    after_simple d q t c k.0 m ∙ ap (λ o. or_else o (or_else (begin Next d c) (cond (eqb c 40) (open_args d t) (enders d c)))) (no_gap false false d c (begins_next c r e1))
     ∙ ap (λ o. or_else o (cond (eqb c 40) (open_args d t) (enders d c))) (begun d c Next r e1)
 simple_begins d Commented (in_gap false f q) q0 r c s m k h e =
     let e1 : step Next c ≡ Some r = ap (λ q. step q c) (some_same Next q0 h) ∙ e in
-    behind_gap d false f q Comments c (d, in_simple r (c ∷ [])) (ap (λ q. step q c) m ∙ begins_next c r e1) (ap (λ q. gap_read (Some q)) m) (begun d c Next r e1)
+    after_gap d false f q Comments c (d, in_simple r (c ∷ [])) (ap (λ q. step q c) m ∙ begins_next c r e1) (ap (λ q. gap_read (Some q)) m) (begun d c Next r e1)
 simple_begins d Fresh (in_gap l f q) q0 r c s m k h e = absurd m
 simple_begins d Fresh (in_simple q t) q0 r c s m k h e = absurd m
 simple_begins d Fresh (in_text q) q0 r c s m k h e = absurd m
@@ -173,7 +173,7 @@ firsts m = false
 
 pub gap_begins : (d : ℕ) (m : Place) (r : Reading) (c : ℕ) (s : List ℕ) → step (Blank Comments) c ≡ Some r → (p : Phase) → takes_gap p ≡ true → Matches p m → Calm d p m (c ∷ s) → (f : Bool) × (move d m c ≡ Some (d, in_gap (leads p) f r))
 gap_begins d (at_start f) r c s e Fresh g w k = (f, ap (λ o. or_else o (or_else (begin First d c) (cond (f && eqb c 41) (pop d) None))) (gap_begun true f d c r e))
-gap_begins d (in_simple q t) r c s e Inside g w k = (false, behind_simple d q t c k.0 w ∙ ap (λ o. or_else o (or_else (begin Next d c) (cond (eqb c 40) (open_args d t) (enders d c)))) (gap_begun false false d c r e))
+gap_begins d (in_simple q t) r c s e Inside g w k = (false, after_simple d q t c k.0 w ∙ ap (λ o. or_else o (or_else (begin Next d c) (cond (eqb c 40) (open_args d t) (enders d c)))) (gap_begun false false d c r e))
 gap_begins d (in_gap l f q) r c s e Fresh g w k = absurd w
 gap_begins d (in_simple q t) r c s e Fresh g w k = absurd w
 gap_begins d (in_text q) r c s e Fresh g w k = absurd w

@@ -6,16 +6,16 @@ use Rattle.std.proofs.lemmas.Str.{chars-append, chars_from_encodes, IsUtf8-strin
 use Rattle.std.specs.Prelude.{◌||◌}
 use Rattle.std.specs.List.Sorted.{IsSortedBy}
 use Rattle.std.proofs.lemmas.Bool.{eqb-true, true≢false}
-use Rattle.selector_parse.specs.Reading.{is_symbol}
-use Rattle.selector_parse.specs.Normal.{rest_joined, normal_part}
+use Rattle.selector_parse.specs.Forms.{is_symbol}
+use Rattle.selector_parse.specs.Normal.{normal_part}
 use lib.Utf8.{encode, encodes, scalars}
 use Rattle.selector_parse.specs.declared.part.PartKind.{PartKind}
 use Rattle.selector_parse.specs.declared.part.PartKind.TheVariants.{Blank, Comment, Combinator, Element, Id, Class, Attribute, PseudoClass, PseudoElement, Nesting}
 use Rattle.selector_parse.specs.declared.part.Part.{Part}
 use Rattle.selector_parse.specs.declared.part.Complex.{Complex}
 use Rattle.selector_parse.specs.declared.part.Args.TheViews.{out-Part, out-Complex}
-use Rattle.selector_parse.specs.Tree.{none, written, Arguments, absent, text, list, enclosed, bare, made, args_of, part_before, complex_before}
-use Rattle.selector_parse.specs.Row.{complex_parts, rest_list, comma_unless}
+use Rattle.selector_parse.specs.Tree.{none, written, Arguments, absent, text, list, bare, made, args_of, part_before, complex_before}
+use Rattle.selector_parse.specs.Row.{complex_parts, rest_list, comma_unless, rest_joined, enclosed}
 use Rattle.selector_parse.proofs.Rows.{followed-written}
 use Rattle.selector_parse.proofs.Trees.{part_out, complex_out, part-followed, complex-followed}
 
@@ -54,7 +54,7 @@ pub nothing_left : (b : Bool) → written (rest_list b []) ≡ []
 nothing_left true = refl
 nothing_left false = refl
 
--- more characters behind a text
+-- more characters after a text
 pub push_chars : {Z : Type 0} (s : String Z) (t new bytes : List ℕ) → chars bytes ≡ t → new ≡ string_bytes s ++ bytes → chars new ≡ chars (string_bytes s) ++ t
 push_chars s t new bytes e f = ap chars f ∙ chars-append (string_bytes s) bytes (IsUtf8-string_bytes s) ∙ ap (λ x. chars (string_bytes s) ++ x) e
 
@@ -70,7 +70,7 @@ push_close s new e = push_chars s (41 ∷ []) new (encode 41) (one_char 41 refl)
 pub push_comma : {Z : Type 0} (s : String Z) (new : List ℕ) → new ≡ string_bytes s ++ encode 44 → chars new ≡ chars (string_bytes s) ++ 44 ∷ []
 push_comma s new e = push_chars s (44 ∷ []) new (encode 44) (one_char 44 refl) e
 
--- arguments behind a text
+-- arguments after a text
 pub enclose : (s m n o t : List ℕ) → m ≡ s ++ 40 ∷ [] → n ≡ m ++ t → o ≡ n ++ 41 ∷ [] → o ≡ s ++ 40 ∷ (t ++ 41 ∷ [])
 enclose s m n o t e f g = g ∙ ap (λ x. x ++ 41 ∷ []) (f ∙ ap (λ x. x ++ t) e) ∙ append_assoc (s ++ 40 ∷ []) t (41 ∷ []) ∙ append_assoc s (40 ∷ []) (t ++ 41 ∷ [])
 

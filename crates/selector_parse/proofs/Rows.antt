@@ -1,4 +1,4 @@
--- One more part behind those read so far.
+-- One more part after those read so far.
 use Rattle.std.proofs.Common.{◌≡◌, ℕ, suc, ◌+◌, ◌-◌, ◌<◌, Bool, true, false, eqb, List, [], ◌∷◌, ◌++◌, length, get_or, drop, Some, refl, ap, sym, ◌∙◌, subst, inl, inr, add-zero, lit<, arith, append-nil, append_assoc}
 use Rattle.std.specs.Prelude.{◌&&◌, ◌||◌, nat_lt, nat_le}
 use Rattle.std.specs.Str.{IsUtf8, IsCharBoundary}
@@ -16,10 +16,11 @@ use Rattle.selector_parse.specs.declared.phase.Phase.{Phase}
 use Rattle.selector_parse.specs.declared.phase.Phase.TheVariants.{Fresh, Inside}
 use Rattle.selector_parse.specs.declared.reading.Reading.{Reading}
 use Rattle.selector_parse.specs.Reading.{is_final, scan_last}
-use Rattle.selector_parse.specs.Tree.{GapKind, Tree, none, comma, gap, simple, plain, nested, written, followed, Arguments, absent, text, list, enclosed, made}
+use Rattle.selector_parse.specs.Tree.{GapKind, Tree, none, comma, gap, simple, plain, nested, written, Arguments, absent, text, list, made}
 use Rattle.css_text.specs.Forms.{begins}
-use Rattle.selector_parse.specs.Grammar.{takes_args, kind_of, is_whole, simple_read, starts, is_simple, gap_next, Are}
-use Rattle.selector_parse.specs.Row.{IsRow, IsClosedText, IsArguments, stops}
+use Rattle.selector_parse.specs.Names.{takes_args}
+use Rattle.selector_parse.specs.Phases.{kind_of, is_whole, simple_read, starts, is_simple, gap_next, Are}
+use Rattle.selector_parse.specs.Row.{IsRow, IsClosedText, IsArguments, stops, followed, enclosed}
 use Rattle.std.specs.Prelude.{Result, Ok, Err, IfOk}
 use Rattle.selector_parse.specs.Machine.{text_stops, in_simple, follow, Stuck, Calm, Moves}
 use Rattle.selector_parse.proofs.Moves.{follow-append, simple_moves}
@@ -96,7 +97,7 @@ pub empty_row : (bs : List ℕ) (start depth : ℕ) (p : Phase) → IsUtf8 bs �
 empty_row bs start depth p u b = let h = ahead_of bs start u b in
     record { ahead = h.0; fits = b.0; here = h.1.text; text = h.1.text; size = sym (add-zero start); are = refl; moves = λ m w k. (m, (refl, w, k)) }
 
--- a row, and another behind it
+-- a row, and another after it
 pub row_append : (bs : List ℕ) (start middle end depth : ℕ) (p m q : Phase) (x y : Tree) → IsRow bs start depth p x m middle → IsRow bs middle depth m y q end → IsRow bs start depth p (followed x y) q end
 row_append bs start middle end depth p m q x y a b =
     let is : a.ahead ≡ written y ++ b.ahead = encodes_same a.ahead (written y ++ b.ahead) (sym a.here ∙ b.text) in
@@ -212,7 +213,7 @@ begins_go bs at k (c ∷ cs) s l h e = (cs, ap (λ x. x ∷ cs) (eqb-true c k (s
 pub byte_begins : (bs : List ℕ) (at k : ℕ) (cs : List ℕ) → 0 < k → k < 128 → IsFrom bs at cs → get_or bs at 0 ≡ k → (r : List ℕ) × (cs ≡ k ∷ r)
 byte_begins bs at k cs p s h e = begins_go bs at k cs s (some_byte bs at k p e) h e
 
--- behind one ASCII character
+-- after one ASCII character
 pub behind : (bs : List ℕ) (at k : ℕ) (r : List ℕ) → k < 128 → IsFrom bs at (k ∷ r) → IsFrom bs (at + 1) r
 behind bs at k r l h = subst (λ n. IsFrom bs (at + n) r) (one_byte k [] l) (from_back bs at (k ∷ []) r h)
 

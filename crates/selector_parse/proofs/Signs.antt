@@ -7,8 +7,8 @@ use Rattle.css_text.proofs.Bytes.{AllHigh, High, low_or_high, front_low, front_h
 use Rattle.selector_parse.specs.declared.reading.Gap.TheVariants.{Comments}
 use Rattle.selector_parse.specs.declared.reading.Reading.{Reading}
 use Rattle.selector_parse.specs.declared.reading.Reading.TheVariants.{Blank}
-use Rattle.selector_parse.specs.Reading.{step, or_on, is_symbol}
-use Rattle.selector_parse.specs.Normal.{is_between, sign_from, sign}
+use Rattle.selector_parse.specs.Forms.{is_symbol}
+use Rattle.selector_parse.specs.Reading.{step, or_on, is_between, sign_from, read_sign}
 use Rattle.selector_parse.proofs.High.{past, step-past, past_again}
 
 no_symbol : (c : ℕ) → 128 ≤ c → is_symbol c ≡ false
@@ -41,5 +41,5 @@ sign_same (c ∷ cs) q = elim (low_or_high c) [
   | inr h ↦ ap (sign_from q) (front_high c cs h) ∙ high_go q c cs h (past q) refl (sign_same cs)
 ]
 
-pub sign-bytes : (cs : List ℕ) → sign (encodes cs) ≡ sign cs
+pub sign-bytes : (cs : List ℕ) → read_sign (encodes cs) ≡ read_sign cs
 sign-bytes cs = sign_same cs (Blank Comments)

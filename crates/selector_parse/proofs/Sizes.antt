@@ -9,7 +9,7 @@ use Rattle.selector_parse.specs.declared.part.Complex.{Complex}
 use Rattle.selector_parse.specs.declared.part.Args.TheViews.{out-Part, out-Complex}
 use Rattle.selector_parse.specs.declared.part.Args.TheFolds.{the_lemmas, fold_out-Part, fold_out-Complex}
 use Rattle.selector_parse.specs.Wide.{weight}
-use Rattle.selector_parse.specs.Worth.{worth_of_complex, sum_from, greatest_from, plus, greater, is_less, ArgsWorth, no_args, no_list, list_of, is_group, worth, worth_of_args, worth_of_part, args_worth, complex_worth, part_worth, selectors_worth, nothing, own, names_all, is_where, size, depth_of_part}
+use Rattle.selector_parse.specs.Worth.{worth_of_complex, sum_from, greatest_from, plus, greater, is_less, ArgsWorth, no_args, no_list, list_of, is_group, worth, worth_of_args, worth_of_part, args_worth, complex_worth, part_worth, selectors_worth, nothing, own, names_all, is_where, depth_of_part, size}
 use Rattle.selector_parse.proofs.Words.{weight_mono, weight_pos, weight-suc}
 
 unless_small : (b : Bool) (x : Counts) → size x ≤ 1 → size (if b then nothing else x) ≤ 1

@@ -9,8 +9,8 @@ use Rattle.selector_parse.specs.declared.part.Args.TheFolds.{the_lemmas}
 use Rattle.selector_parse.specs.declared.part.Selectors.{Selectors}
 use Rattle.selector_parse.specs.declared.part.Args.TheViews.{out-Part, out-Complex, out-Selectors, out-roll-Complex, roll-Complex, roll-Selectors}
 use Rattle.selector_parse.specs.declared.part.Args.TheFolds.{fold_out-Part, fold_out-Complex, fold_out-Selectors}
-use Rattle.selector_parse.specs.Tree.{Tree, none, comma, followed, Arguments, absent, text, list, bare, made, in_turn, after_commas, args_step, complex_step, part_step, selectors_step, args_of, part_before, complex_before, tree_of}
-use Rattle.selector_parse.specs.Row.{complex_parts, list_parts}
+use Rattle.selector_parse.specs.Tree.{Tree, none, comma, Arguments, absent, text, list, bare, made, in_turn, after_commas, args_step, complex_step, part_step, selectors_step, args_of, part_before, complex_before, tree_of}
+use Rattle.selector_parse.specs.Row.{complex_parts, list_parts, followed}
 use Rattle.selector_parse.specs.Normal.{normal_part, args_normal, complex_normal, part_normal, selectors_normal, normal_of_args, normal_of_part, normal_of_complex, all_of, joined}
 use Rattle.std.proofs.lemmas.List.Recursion.{max_bounds, max_push}
 use Rattle.selector_parse.specs.Worth.{deepest, args_depth, complex_depth, part_depth, selectors_depth, depth_of_part, depth_of_complex}

@@ -14,7 +14,9 @@ use Rattle.selector_parse.specs.declared.reading.Reading.{Reading}
 use Rattle.selector_parse.specs.declared.reading.Reading.TheVariants.{First, Next, Done, Text, Blank}
 use Rattle.selector_parse.specs.Reading.{step, read, scan_last}
 use Rattle.selector_parse.specs.Tree.{Tree, none, comma, gap, simple, plain, nested, GapKind, blank as blank_gap, comment, combinator, written}
-use Rattle.selector_parse.specs.Grammar.{gap_read, gap_of, is_blanks, is_comment, is_some_text, is_simple, starts, gap_next, blank_next, comment_next, combinator_next, is_plain, takes_list, kind_of, may_end, most_depth, Are, Selects}
+use Rattle.selector_parse.specs.Names.{takes_list}
+use Rattle.selector_parse.specs.Grammar.{most_depth}
+use Rattle.selector_parse.specs.Phases.{gap_read, gap_of, is_blanks, is_comment, is_some_text, is_simple, starts, gap_next, blank_next, comment_next, combinator_next, is_plain, kind_of, may_end, Are, Passes}
 use Rattle.selector_parse.specs.Machine.{Stuck, text_stops, after_run, blank_list}
 use Rattle.selector_parse.proofs.Moves.{some_same, read_head, if_so_parts, none_some, blanks_some, sign_some, run_last, run_after, begins_first, begins_next, comment_read, done_is}
 use Rattle.selector_parse.proofs.Heads.{head_opens, differs}
@@ -378,5 +380,5 @@ unique d at p q q' (nested k m t i x) (nested l o u j y) r s a e f b g h z =
     record { parts = nested_eq k l m o t u i j x y (a.1 ∙ ap kind_of n.0 ∙ sym b.1) (a.0 ∙ sym b.0) n.0 c.parts o1.parts; rest = o1.rest }
 
 -- at most one list for each text
-pub one_list : (s : List ℕ) (x y : Tree) → Selects s x → Selects s y → x ≡ y
+pub one_list : (s : List ℕ) (x y : Tree) → Passes s x → Passes s y → x ≡ y
 one_list s x y a b = (unique 0 0 Fresh a.last b.last x y [] [] a.are a.ends tt b.are b.ends tt (ap (λ z. z ++ []) (a.text ∙ sym b.text))).parts

@@ -12,20 +12,21 @@ use Rattle.selector_parse.specs.declared.reading.Gap.TheVariants.{One, Comments,
 use Rattle.selector_parse.specs.declared.reading.Within.TheVariants.{Brackets, Parentheses}
 use Rattle.selector_parse.specs.declared.reading.Reading.{Reading}
 use Rattle.selector_parse.specs.declared.reading.Reading.TheVariants.{First, Next, Text, TextEscape, Quoted, QuotedEscape, Blank, Slash}
-use Rattle.selector_parse.specs.Reading.{is_symbol, quote, step, read, is_final, scan_last}
+use Rattle.selector_parse.specs.Forms.{is_symbol}
+use Rattle.selector_parse.specs.Reading.{quote, step, read, is_final, scan_last}
 use Rattle.selector_parse.specs.Tree.{Tree, none, comma, gap, simple, plain, nested, GapKind, blank as blank_gap, comment, combinator, written}
-use Rattle.selector_parse.specs.Grammar.{gap_read, gap_of, is_blanks, is_comment, is_some_text, is_simple, simple_read, is_whole, starts, gap_next, blank_next, comment_next, combinator_next, may_end, Are}
+use Rattle.selector_parse.specs.Phases.{gap_read, gap_of, is_blanks, is_comment, is_some_text, is_simple, simple_read, is_whole, starts, gap_next, blank_next, comment_next, combinator_next, may_end, Are}
 use Rattle.selector_parse.specs.Machine.{Stuck, text_stops, after_run, blank_list, Calm, Moves}
 use Rattle.selector_parse.proofs.Moves.{some_same, read_head, follow-append, begins_first, begins_next, stuck_last, stuck_len, run_after, scan_last-append, scan_len-append, if_so_parts, none_some, blanks_some, sign_some, comment_read, starts_open}
 use Rattle.selector_parse.proofs.Gaps.{is_run, run_read}
 use Rattle.selector_parse.proofs.Heads.{head_opens, blank_opens, next_opens, differs}
 
--- what may stand behind parts inside so many parentheses
+-- what may stand after parts inside so many parentheses
 abbrev pub Ends : ℕ → List ℕ → Type 0
 Ends d [] = Unit {0}
 Ends d (c ∷ cs) = (c ≡ 41) × (0 < d)
 
--- one way on, and another behind it
+-- one way on, and another after it
 pub moves-append : (d : ℕ) (p m q : Phase) (x y r : List ℕ) → Moves d p m x (y ++ r) → Moves d m q y r → Moves d p q (x ++ y) r
 moves-append d p m q x y r a b = λ n w k.
     let s = a n w (subst (Calm d p n) (append_assoc x y r) k) in
@@ -201,7 +202,7 @@ inside_inner d at q (simple k g t x) r a e = inner_next _ (next_text Inside t (w
 inside_inner d at q (plain k g t args x) r a e = inner_next _ (next_text Inside t (40 ∷ (args ++ 41 ∷ written x)) r refl a.2)
 inside_inner d at q (nested k g t i x) r a e = inner_next _ (next_text Inside t (40 ∷ (written i ++ 41 ∷ written x)) r refl a.2)
 
--- behind a comment inside a compound
+-- after a comment inside a compound
 pub IsRun : ℕ → List ℕ → Type 0
 IsRun d s = (scan_last (Blank Comments) s ≡ Blank Comments) × (text_stops d (after_run s) ≡ false)
 
@@ -228,7 +229,7 @@ commented_run d at q (simple k g t x) r a e = run_next d _ (next_text Commented 
 commented_run d at q (plain k g t args x) r a e = run_next d _ (next_text Commented t (40 ∷ (args ++ 41 ∷ written x)) r refl a.2)
 commented_run d at q (nested k g t i x) r a e = run_next d _ (next_text Commented t (40 ∷ (written i ++ 41 ∷ written x)) r refl a.2)
 
--- behind blanks at the end
+-- after blanks at the end
 pub record Last (d : ℕ) (g : Gap) (s : List ℕ) : Type 0 where
   pub stuck : Stuck (Blank g) s
   pub stops : text_stops d s ≡ true

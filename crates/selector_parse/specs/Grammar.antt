@@ -1,160 +1,86 @@
--- The grammar of selectors.
-use Rattle.std.specs.Prelude.{◌≡◌, ◌<◌, ℕ, suc, ◌+◌, ◌-◌, Bool, true, false, ◌==◌, ◌&&◌, ◌||◌, if◌then◌else◌, List, [], ◌∷◌, codes, Option, Some, None}
-use Rattle.std.specs.Char.{to_ascii_lowercase}
+-- The grammar of selectors: each part is of its form, and what comes after it may follow it.
+use Rattle.std.specs.Prelude.{◌≡◌, ◌<◌, ℕ, suc, ◌+◌, ◌-◌, Bool, true, false, not, ◌||◌, List}
 use Rattle.css_text.specs.Ahead.{byte_len}
-use Rattle.css_text.specs.Forms.{begins}
 use Rattle.selector_parse.specs.declared.part.PartKind.{PartKind}
-use Rattle.selector_parse.specs.declared.part.PartKind.TheVariants.{Element, Id, Class, Attribute, PseudoClass, PseudoElement, Nesting}
-use Rattle.selector_parse.specs.declared.phase.Phase.{Phase}
-use Rattle.selector_parse.specs.declared.phase.Phase.TheVariants.{Fresh, Open, Inside, Commented, Trailing}
-use Rattle.selector_parse.specs.declared.reading.Gap.{Gap}
-use Rattle.selector_parse.specs.declared.reading.Gap.TheVariants.{One, Comments, Spaced, Symbol}
-use Rattle.selector_parse.specs.declared.reading.Within.TheVariants.{Parentheses}
-use Rattle.selector_parse.specs.declared.reading.Reading.{Reading}
-use Rattle.selector_parse.specs.declared.reading.Reading.TheVariants.{First, Next, Done, Text, Blank}
-use Rattle.selector_parse.specs.Reading.{is_final, read}
-use Rattle.selector_parse.specs.Tree.{GapKind, blank, comment, combinator, Tree, none, comma, gap, simple, plain, nested, written}
-
--- the text is this word, which is in lower case, in any ASCII case
-abbrev pub spelled : List ℕ → List ℕ → Bool
-spelled [] [] = true
-spelled [] (c ∷ cs) = false
-spelled (w ∷ ws) [] = false
-spelled (w ∷ ws) (c ∷ cs) = to_ascii_lowercase c == w && spelled ws cs
-
--- the pseudo-elements that one colon may begin
-unfoldable pub is_legacy : List ℕ → Bool
-is_legacy name = spelled (codes "before") name || spelled (codes "after") name || spelled (codes "first-line") name || spelled (codes "first-letter") name
-
--- the pseudo-classes whose arguments are a list
-unfoldable pub is_logical : List ℕ → Bool
-is_logical name = spelled (codes "is") name || spelled (codes "not") name || spelled (codes "has") name || spelled (codes "where") name
-
--- what begins with one colon, by what stands behind it
-abbrev pub pseudo_kind : List ℕ → PartKind
-pseudo_kind name = if begins 58 name || is_legacy name then PseudoElement else PseudoClass
-
--- the kind of a simple selector, by its text
-abbrev pub kind_of : List ℕ → PartKind
-kind_of [] = Element
-kind_of (c ∷ cs) = if c == 35 then Id else if c == 46 then Class else if c == 91 then Attribute else if c == 38 then Nesting else if c == 58 then pseudo_kind cs else Element
-
--- a pseudo-class or pseudo-element may have arguments
-abbrev pub takes_args : List ℕ → Bool
-takes_args t = begins 58 t
-
--- its arguments are a list
-abbrev pub takes_list : List ℕ → Bool
-takes_list [] = false
-takes_list (c ∷ cs) = c == 58 && is_logical cs
-
--- what has been read is a whole part
-abbrev pub is_whole : Option Reading → Bool
-is_whole None = false
-is_whole (Some q) = is_final q
-
--- what a run of blanks holds
-abbrev pub gap_read : Option Reading → Option Gap
-gap_read (Some (Blank g)) = Some g
-gap_read o = None
-
-abbrev pub gap_of : List ℕ → Option Gap
-gap_of t = gap_read (read (Blank Comments) t)
-
--- white space and comments
-abbrev pub is_blanks : Option Gap → Bool
-is_blanks (Some Comments) = true
-is_blanks (Some Spaced) = true
-is_blanks g = false
-
--- one comment
-abbrev pub is_done : Option Reading → Bool
-is_done (Some Done) = true
-is_done o = false
-
-abbrev pub is_comment : List ℕ → Bool
-is_comment t = is_done (read (Blank One) t)
-
--- what follows blanks, a comment and a combinator, where they may stand
-abbrev pub blank_next : Phase → Option Phase
-blank_next Fresh = Some Open
-blank_next Inside = Some Trailing
-blank_next p = None
-
-abbrev pub comment_next : Phase → Option Phase
-comment_next Inside = Some Commented
-comment_next Commented = Some Commented
-comment_next p = None
-
--- A combinator at the start has a sign.
-abbrev pub combinator_next : Phase → Option Gap → Option Phase
-combinator_next Fresh (Some Symbol) = Some Open
-combinator_next Inside (Some Symbol) = Some Open
-combinator_next Inside (Some Spaced) = Some Open
-combinator_next p g = None
-
-abbrev pub if_so : Bool → Option Phase → Option Phase
-if_so true o = o
-if_so false o = None
-
-abbrev pub is_some_text : List ℕ → Bool
-is_some_text [] = false
-is_some_text (c ∷ cs) = true
-
-abbrev pub gap_next : Phase → GapKind → List ℕ → Option Phase
-gap_next p blank t = if_so (is_some_text t && is_blanks (gap_of t)) (blank_next p)
-gap_next p comment t = if_so (is_comment t) (comment_next p)
-gap_next p combinator t = combinator_next p (gap_of t)
-
--- what a simple selector begins with
-abbrev pub starts : Phase → Option Reading
-starts Fresh = Some First
-starts Open = Some First
-starts Inside = Some Next
-starts Commented = Some Next
-starts Trailing = None
-
-abbrev pub simple_read : Option Reading → List ℕ → Bool
-simple_read None t = false
-simple_read (Some q) t = is_whole (read q t)
-
--- the text is a simple selector, which is no Element but where a compound begins
-abbrev pub is_simple : Phase → List ℕ → Bool
-is_simple p t = simple_read (starts p) t
+use Rattle.selector_parse.specs.declared.part.PartKind.TheVariants.{Element}
+use Rattle.selector_parse.specs.Tree.{Tree, none, comma, gap, simple, plain, nested, blank, comment, combinator, written}
+use Rattle.selector_parse.specs.Names.{takes_args, takes_list}
+use Rattle.selector_parse.specs.Forms.{is_empty, is_one, comment_form, is_simple, is_balanced, are_blanks, has_sign, is_combinator}
 
 -- at most so many parentheses are open at once
 abbrev pub most_depth : ℕ
 most_depth = 100
 
--- Arguments that are no list, inside so many parentheses with their own: blanks alone where they would be a list, and else
--- strings, escapes, balanced parentheses and other characters.
+-- a complex selector ends where its parts do, and before a comma
+abbrev pub ends : Tree → Bool
+ends none = true
+ends (comma rest) = true
+ends parts = false
+
+-- a compound begins with any simple selector
+abbrev pub begins_compound : Tree → Bool
+begins_compound (simple k at t rest) = true
+begins_compound (plain k at t args rest) = true
+begins_compound (nested k at t inner rest) = true
+begins_compound parts = false
+
+-- a complex selector begins with blanks and a compound, with a combinator that has a sign, or with a compound
+abbrev pub begins_complex : Tree → Bool
+begins_complex (gap blank at t rest) = begins_compound rest
+begins_complex (gap combinator at t rest) = has_sign t
+begins_complex parts = begins_compound parts
+
+abbrev pub is_element_kind : PartKind → Bool
+is_element_kind Element = true
+is_element_kind k = false
+
+-- a compound goes on with comments and with simple selectors that are no Element
+abbrev pub continues : Tree → Bool
+continues (gap comment at t rest) = true
+continues (simple k at t rest) = not (is_element_kind k)
+continues (plain k at t args rest) = not (is_element_kind k)
+continues (nested k at t inner rest) = not (is_element_kind k)
+continues parts = false
+
+-- after a simple selector its compound goes on, a combinator follows, or the complex selector ends, with blanks or without
+abbrev pub follows_simple : Tree → Bool
+follows_simple (gap blank at t rest) = ends rest
+follows_simple (gap combinator at t rest) = true
+follows_simple parts = continues parts || ends parts
+
+-- Arguments that are no list, inside so many parentheses with their own: blanks alone where they would be a list.
 abbrev pub is_plain : Bool → ℕ → List ℕ → Bool
-is_plain true depth args = is_blanks (gap_of args)
-is_plain false depth args = is_whole (read (Text (Parentheses 0 (most_depth - depth))) args)
+is_plain true depth args = are_blanks args
+is_plain false depth args = is_balanced (most_depth - depth) 0 0 args
 
--- a complex selector may end here
-abbrev pub may_end : Phase → Bool
-may_end Inside = true
-may_end Trailing = true
-may_end p = false
+-- Each part is of its form, and what comes after it may follow it, where all stand inside so many parentheses.
+abbrev pub AreParts : ℕ → Tree → Type 0
+AreParts depth none = Unit {0}
+AreParts depth (comma rest) = (begins_complex rest ≡ true) × AreParts depth rest
+AreParts depth (gap blank at t rest) = (is_empty t ≡ false) × (are_blanks t ≡ true) × AreParts depth rest
+AreParts depth (gap comment at t rest) = (is_one comment_form t ≡ true) × (continues rest ≡ true) × AreParts depth rest
+AreParts depth (gap combinator at t rest) = (is_combinator t ≡ true) × (begins_compound rest ≡ true) × AreParts depth rest
+AreParts depth (simple k at t rest) = (is_simple k t ≡ true) × (follows_simple rest ≡ true) × AreParts depth rest
+AreParts depth (plain k at t args rest) =
+    (is_simple k t ≡ true) × (takes_args t ≡ true) × (depth < most_depth) × (is_plain (takes_list t) (suc depth) args ≡ true)
+    × (follows_simple rest ≡ true) × AreParts depth rest
+AreParts depth (nested k at t inner rest) =
+    (is_simple k t ≡ true) × (takes_list t ≡ true) × (depth < most_depth) × (begins_complex inner ≡ true) × AreParts (suc depth) inner
+    × (follows_simple rest ≡ true) × AreParts depth rest
 
--- The parts stand inside so many parentheses, from this phase to that, and the first of them at this byte.
-abbrev pub Are : ℕ → Phase → ℕ → Tree → Phase → Type 0
-Are depth p at none end = p ≡ end
-Are depth p at (comma rest) end = (may_end p ≡ true) × Are depth Fresh (at + 1) rest end
-Are depth p at (gap k a t rest) end = (a ≡ at) × ((q : Phase) × ((gap_next p k t ≡ Some q) × Are depth q (at + byte_len t) rest end))
-Are depth p at (simple k a t rest) end = (a ≡ at) × (k ≡ kind_of t) × (is_simple p t ≡ true) × Are depth Inside (at + byte_len t) rest end
-Are depth p at (plain k a t args rest) end =
-    (a ≡ at) × (k ≡ kind_of t) × (is_simple p t ≡ true) × (takes_args t ≡ true) × (depth < most_depth) × (is_plain (takes_list t) (suc depth) args ≡ true)
-    × Are depth Inside (at + byte_len t + 1 + byte_len args + 1) rest end
-Are depth p at (nested k a t inner rest) end =
-    (a ≡ at) × (k ≡ kind_of t) × (is_simple p t ≡ true) × (takes_list t ≡ true) × (depth < most_depth)
-    × ((q : Phase) × ((may_end q ≡ true) × Are (suc depth) Fresh (at + byte_len t + 1) inner q))
-    × Are depth Inside (at + byte_len t + 1 + byte_len (written inner) + 1) rest end
+-- Each part's first byte, where the first part stands at the byte `at`.
+abbrev pub StandAt : ℕ → Tree → Type 0
+StandAt at none = Unit {0}
+StandAt at (comma rest) = StandAt (at + 1) rest
+StandAt at (gap k a t rest) = (a ≡ at) × StandAt (at + byte_len t) rest
+StandAt at (simple k a t rest) = (a ≡ at) × StandAt (at + byte_len t) rest
+StandAt at (plain k a t args rest) = (a ≡ at) × StandAt (at + byte_len t + 1 + byte_len args + 1) rest
+StandAt at (nested k a t inner rest) =
+    (a ≡ at) × StandAt (at + byte_len t + 1) inner × StandAt (at + byte_len t + 1 + byte_len (written inner) + 1) rest
 
 -- The parts are a text's. There are at most one such parts for each text.
 pub record Selects (s : List ℕ) (parts : Tree) : Type 0 where
   pub text : written parts ≡ s
-  pub last : Phase
-  pub ends : may_end last ≡ true
-  pub are : Are 0 Fresh 0 parts last
+  pub begins : begins_complex parts ≡ true
+  pub are : AreParts 0 parts
+  pub places : StandAt 0 parts

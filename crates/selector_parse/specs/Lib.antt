@@ -1,10 +1,13 @@
-pub mod Reading
+pub mod Names
+pub mod Forms
 pub mod Tree
 pub mod Grammar
-pub mod Machine
-pub mod Row
 pub mod Fault
-pub mod Wide
 pub mod Worth
 pub mod Normal
 pub mod Examples
+pub mod Wide
+pub mod Reading
+pub mod Phases
+pub mod Machine
+pub mod Row

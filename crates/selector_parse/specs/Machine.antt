@@ -1,4 +1,4 @@
--- Reading selectors one character after another, with no look ahead: how far a text can be the front of a list of selectors.
+-- The proof's own: reading selectors one character after another, with no look ahead: how far a text can be the front of a list.
 use Rattle.std.specs.Prelude.{◌≡◌, ℕ, zero, suc, ◌-◌, Bool, true, false, ◌==◌, ◌&&◌, ◌||◌, nat_lt, if◌then◌else◌, List, [], ◌∷◌, ◌++◌, drop, Option, Some, None}
 use Rattle.css_text.specs.Forms.{begins}
 use Rattle.selector_parse.specs.declared.phase.Phase.{Phase}
@@ -9,10 +9,12 @@ use Rattle.selector_parse.specs.declared.reading.Within.TheVariants.{Parentheses
 use Rattle.selector_parse.specs.declared.reading.Reading.{Reading}
 use Rattle.selector_parse.specs.declared.reading.Reading.TheVariants.{First, Next, Done, Text, Blank}
 use Rattle.selector_parse.specs.Reading.{step, on, is_final, scan_len, scan_last}
-use Rattle.selector_parse.specs.Grammar.{takes_args, takes_list, most_depth, gap_read, is_blanks}
+use Rattle.selector_parse.specs.Names.{takes_args, takes_list}
+use Rattle.selector_parse.specs.Grammar.{most_depth}
+use Rattle.selector_parse.specs.Phases.{gap_read, is_blanks}
 
 -- Where a reader stands: at the start of a complex selector; in a gap; in a simple selector, of which so much has been read; in
--- arguments that are no list. The first two tell whether nothing but blanks stands behind the `(` of a list; the gap also
+-- arguments that are no list. The first two tell whether nothing but blanks stands after the `(` of a list; the gap also
 -- whether it stands at the start.
 pub data Place : Type 0 where
   at_start : Bool → Place
@@ -28,7 +30,7 @@ abbrev pub or_else : Option Stand → Option Stand → Option Stand
 or_else (Some s) o = Some s
 or_else None o = o
 
--- behind a `)`
+-- after a `)`
 abbrev pub pop : ℕ → Option Stand
 pop zero = None
 pop (suc d) = Some (d, in_simple Done [])
@@ -47,7 +49,7 @@ abbrev pub open_args : ℕ → List ℕ → Option Stand
 open_args d t =
     if takes_args t && nat_lt d most_depth then (if takes_list t then Some (suc d, at_start true) else Some (d, in_text (Text (Parentheses 0 (most_depth - suc d))))) else None
 
--- what a simple selector behind a gap begins with
+-- what a simple selector after a gap begins with
 abbrev pub opener : Bool → Gap → Reading
 opener true g = First
 opener false Comments = Next
@@ -107,7 +109,7 @@ Matches Commented (in_gap false f q) = q ≡ Blank Comments
 Matches Trailing (in_gap false f q) = (g : Gap) × ((gap_read (Some q) ≡ Some g) × (is_blanks (Some g) ≡ true))
 Matches p m = ⊥
 
--- the text behind blanks and signs
+-- the text after blanks and signs
 abbrev pub after_run : List ℕ → List ℕ
 after_run s = drop (scan_len (Blank Comments) s) s
 

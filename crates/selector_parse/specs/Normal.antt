@@ -1,5 +1,5 @@
 -- The normal form of selectors.
-use Rattle.std.specs.Prelude.{◌≡◌, ℕ, Bool, true, false, ◌&&◌, if◌then◌else◌, List, [], ◌∷◌, ◌++◌, map, encode_utf8_all}
+use Rattle.std.specs.Prelude.{◌≡◌, ℕ, if◌then◌else◌, List, [], ◌∷◌, ◌++◌, map, encode_utf8_all}
 use Rattle.std.specs.List.Sorted.{IsPermutation, IsSorted}
 use Rattle.std.specs.Cmp.Lexicographic.{slice_cmp}
 use Rattle.std.specs.Ordering.{nat_cmp}
@@ -12,23 +12,16 @@ use Rattle.selector_parse.specs.declared.part.Args.{Args}
 use Rattle.selector_parse.specs.declared.part.Args.TheOpen.{Args-F, Part-F, Complex-F, Selectors-F, Absent, Plain, List as Listed}
 use Rattle.selector_parse.specs.declared.part.Args.TheFolds.{fold-Args, fold-Part, fold-Complex}
 use Rattle.selector_parse.specs.declared.part.Args.TheViews.{out-Selectors}
-use Rattle.selector_parse.specs.declared.reading.Gap.TheVariants.{Comments}
-use Rattle.selector_parse.specs.declared.reading.Reading.{Reading}
-use Rattle.selector_parse.specs.declared.reading.Reading.TheVariants.{Blank}
-use Rattle.selector_parse.specs.Reading.{step, or_on, is_symbol}
+use Rattle.selector_parse.specs.Forms.{is_symbol, after_all, blank_unit}
 
--- between the comments of a run
-abbrev pub is_between : Reading → Bool
-is_between (Blank g) = true
-is_between q = false
+-- what begins with a sign, as that sign; else as a space
+abbrev pub sign_at : List ℕ → ℕ
+sign_at [] = 32
+sign_at (c ∷ cs) = if is_symbol c then c else 32
 
--- the sign of a combinator, which stands in no comment; else a space
-abbrev pub sign_from : Reading → List ℕ → ℕ
-sign_from q [] = 32
-sign_from q (c ∷ cs) = if is_between q && is_symbol c then c else or_on (step q c) 32 (λ p. sign_from p cs)
-
+-- the sign of a combinator, which stands after blanks; else a space
 abbrev pub sign : List ℕ → ℕ
-sign t = sign_from (Blank Comments) t
+sign t = sign_at (after_all blank_unit 0 t)
 
 abbrev pub normal_part : PartKind → List ℕ → List ℕ → List ℕ
 normal_part BlankPart t args = []
@@ -48,11 +41,6 @@ after_commas (x ∷ xs) = 44 ∷ (x ++ after_commas xs)
 abbrev pub joined : List (List ℕ) → List ℕ
 joined [] = []
 joined (x ∷ xs) = x ++ after_commas xs
-
--- texts that are left, the first of all among them or not
-abbrev pub rest_joined : Bool → List (List ℕ) → List ℕ
-rest_joined true xs = joined xs
-rest_joined false xs = after_commas xs
 
 -- one layer of each type, the layers below given
 abbrev pub args_normal : Args-F (List ℕ) (List ℕ) (List ℕ) (List ℕ) → List ℕ

@@ -1,8 +1,8 @@
--- The forms of parts, read from the left: what has been read so far says which character may follow, and whether the part may
--- end there. A character that isn't ASCII counts as a unit of a name.
-use Rattle.std.specs.Prelude.{ℕ, suc, ◌+◌, ◌-◌, Bool, true, false, ◌==◌, ◌||◌, nat_lt, nat_le, if◌then◌else◌, List, [], ◌∷◌, Option, Some, None}
-use Rattle.std.specs.Char.{is_ascii_alphanumeric}
+-- The proof's own: the forms of specs/Forms as the code reads them, one character after another. What has been read so far says
+-- which character may follow, and whether the part may end there.
+use Rattle.std.specs.Prelude.{ℕ, suc, ◌+◌, ◌-◌, Bool, true, false, ◌==◌, ◌&&◌, ◌||◌, nat_lt, if◌then◌else◌, List, [], ◌∷◌, Option, Some, None}
 use Rattle.css_text.specs.Characters.{is_space, is_quote}
+use Rattle.selector_parse.specs.Forms.{is_name_char, is_break, is_symbol}
 use Rattle.selector_parse.specs.declared.reading.Gap.{Gap}
 use Rattle.selector_parse.specs.declared.reading.Gap.TheVariants.{One, Comments, Spaced, Symbol}
 use Rattle.selector_parse.specs.declared.reading.Within.{Within}
@@ -10,21 +10,9 @@ use Rattle.selector_parse.specs.declared.reading.Within.TheVariants.{Brackets, P
 use Rattle.selector_parse.specs.declared.reading.Reading.{Reading}
 use Rattle.selector_parse.specs.declared.reading.Reading.TheVariants.{First, Next, ElementName, ElementEscape, Star, Bar, Colon, NameFirst, Name, NameEscape, Done, Text, TextEscape, Quoted, QuotedEscape, Blank, Slash, Note, NoteStar}
 
--- an ASCII letter or digit, - or _, or a character past ASCII
-abbrev pub is_name : ℕ → Bool
-is_name c = is_ascii_alphanumeric c || c == 45 || c == 95 || nat_le 128 c
-
--- LF, CR, FF
-abbrev pub is_break : ℕ → Bool
-is_break c = c == 10 || c == 13 || c == 12
-
--- > + ~
-abbrev pub is_symbol : ℕ → Bool
-is_symbol c = c == 62 || c == 43 || c == 126
-
 -- a unit of a name, or the backslash before one
 abbrev pub unit : Reading → Reading → ℕ → Option Reading
-unit name escape c = if is_name c then Some name else if c == 92 then Some escape else None
+unit name escape c = if is_name_char c then Some name else if c == 92 then Some escape else None
 
 -- a backslash hides any character but a line break
 abbrev pub hidden : Reading → ℕ → Option Reading
@@ -36,14 +24,14 @@ next c = if c == 35 || c == 46 then Some NameFirst else if c == 58 then Some Col
 
 -- the first character of a simple selector
 abbrev pub first : ℕ → Option Reading
-first c = if is_name c then Some ElementName else if c == 92 then Some ElementEscape else if c == 42 then Some Star else if c == 124 then Some Bar else next c
+first c = if is_name_char c then Some ElementName else if c == 92 then Some ElementEscape else if c == 42 then Some Star else if c == 124 then Some Bar else next c
 
 -- blanks with white space
 abbrev pub spaced : Gap → Gap
 spaced Comments = Spaced
 spaced g = g
 
--- behind a whole comment
+-- after a whole comment
 abbrev pub noted : Gap → Reading
 noted One = Done
 noted g = Blank g
@@ -125,3 +113,16 @@ scan_len q (c ∷ cs) = or_on (step q c) 0 (λ p. suc (scan_len p cs))
 abbrev pub scan_last : Reading → List ℕ → Reading
 scan_last q [] = q
 scan_last q (c ∷ cs) = or_on (step q c) q (λ p. scan_last p cs)
+
+-- between the comments of a run
+abbrev pub is_between : Reading → Bool
+is_between (Blank g) = true
+is_between q = false
+
+-- the sign that is read of a combinator; else a space
+abbrev pub sign_from : Reading → List ℕ → ℕ
+sign_from q [] = 32
+sign_from q (c ∷ cs) = if is_between q && is_symbol c then c else or_on (step q c) 32 (λ p. sign_from p cs)
+
+abbrev pub read_sign : List ℕ → ℕ
+read_sign t = sign_from (Blank Comments) t

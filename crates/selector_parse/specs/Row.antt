@@ -1,4 +1,4 @@
--- What has been read of selectors.
+-- The proof's own: what has been read of selectors, by the bytes at which it stands.
 use Rattle.std.specs.Prelude.{◌≡◌, ◌≤◌, ◌<◌, ℕ, suc, ◌+◌, List, [], ◌∷◌, ◌++◌, length, drop, map, encode_utf8_all, Bool, true, false, ◌==◌, ◌||◌, ◌&&◌, nat_lt, nat_le, slice_index, Option, Some, None}
 use Rattle.css_text.specs.Ahead.{byte_len}
 use Rattle.selector_parse.specs.declared.part.PartKind.{PartKind}
@@ -15,8 +15,31 @@ use Rattle.selector_parse.specs.declared.placed.Failure.{Failure}
 use Rattle.selector_parse.specs.declared.placed.Failure.TheVariants.{At, Memory}
 use Rattle.selector_parse.specs.Reading.{step, is_final, read, scan_len, scan_last}
 use Rattle.selector_parse.specs.Machine.{Place, at_start, in_simple, Stand, follow, Blocked, Stuck, Matches, Calm, Moves}
-use Rattle.selector_parse.specs.Tree.{Tree, none, written, Arguments, absent, text, list, enclosed, part_before, complex_before, in_turn, after_commas, with_commas}
-use Rattle.selector_parse.specs.Grammar.{Are, may_end, takes_args, takes_list, is_plain, most_depth}
+use Rattle.selector_parse.specs.Tree.{Tree, none, comma, gap, simple, plain, nested, written, Arguments, absent, text, list, part_before, complex_before, in_turn, after_commas, with_commas}
+use Rattle.selector_parse.specs.Names.{takes_args, takes_list}
+use Rattle.selector_parse.specs.Normal.{joined, after_commas as texts_after}
+use Rattle.selector_parse.specs.Grammar.{most_depth}
+use Rattle.selector_parse.specs.Phases.{Are, may_end, is_plain}
+
+-- parts before others
+abbrev pub followed : Tree → Tree → Tree
+followed none q = q
+followed (comma rest) q = comma (followed rest q)
+followed (gap k at t rest) q = gap k at t (followed rest q)
+followed (simple k at t rest) q = simple k at t (followed rest q)
+followed (plain k at t args rest) q = plain k at t args (followed rest q)
+followed (nested k at t inner rest) q = nested k at t inner (followed rest q)
+
+-- arguments with their parentheses
+abbrev pub enclosed : Arguments → List ℕ
+enclosed absent = []
+enclosed (text t) = 40 ∷ (t ++ 41 ∷ [])
+enclosed (list inner) = 40 ∷ (written inner ++ 41 ∷ [])
+
+-- texts that are left, the first of all among them or not
+abbrev pub rest_joined : Bool → List (List ℕ) → List ℕ
+rest_joined true xs = joined xs
+rest_joined false xs = texts_after xs
 
 -- The parts stand from the byte `start` up to the byte `end`, from the phase p to the phase q.
 pub record IsRow (bs : List ℕ) (start depth : ℕ) (p : Phase) (parts : Tree) (q : Phase) (end : ℕ) : Type 0 where
@@ -68,7 +91,7 @@ pub record IsClosedText (bs : List ℕ) (from : ℕ) (start : Reading) (args : A
   pub final : is_final last ≡ true
   pub stuck : step last 41 ≡ None
 
--- a text's end behind its `(`
+-- a text's end after its `(`
 abbrev pub closed : Arguments → List ℕ
 closed absent = []
 closed (text t) = t ++ 41 ∷ []
@@ -80,7 +103,7 @@ FitList depth at absent = ⊥
 FitList depth at (text t) = is_plain true depth t ≡ true
 FitList depth at (list inner) = (q : Phase) × ((may_end q ≡ true) × Are depth Fresh at inner q)
 
--- The arguments are right behind this name, inside so many parentheses.
+-- The arguments are right after this name, inside so many parentheses.
 abbrev pub Fit : ℕ → List ℕ → ℕ → Arguments → Type 0
 Fit depth name at absent = Unit {0}
 Fit depth name at (text t) = (takes_args name ≡ true) × (depth < most_depth) × (is_plain (takes_list name) (suc depth) t ≡ true)
@@ -119,7 +142,7 @@ abbrev pub Halts : List ℕ → ℕ → ℕ → Phase → Failure → Type 0
 Halts bs at depth p (At e) = IsHalt bs at depth p e
 Halts bs at depth p (Memory e) = Unit {0}
 
--- The same for arguments, behind the name of a simple selector.
+-- The same for arguments, after the name of a simple selector.
 pub record IsNameHalt (bs : List ℕ) (from depth : ℕ) (name : List ℕ) (e : ℕ) : Type 0 where
   pub front : List ℕ
   pub back : List ℕ
@@ -189,7 +212,7 @@ pub record IsArguments (bs : List ℕ) (from depth : ℕ) (name : List ℕ) (arg
   pub fit : Fit depth name from args
   pub moves : (q : Reading) → is_final q ≡ true → Stuck q (enclosed args ++ ahead) → (n : Place) × ((follow depth (in_simple q name) (enclosed args) ≡ Some (depth, n)) × Matches Inside n × Calm depth Inside n ahead)
 
--- which part a gap is, and what may follow, by whether the complex selector ends behind it; none for comments in a compound
+-- which part a gap is, and what may follow, by whether the complex selector ends after it; none for comments in a compound
 abbrev pub gap_choice : Phase → Gap → Bool → Option (PartKind × Phase)
 gap_choice p Symbol ends = Some (Combinator, Open)
 gap_choice Fresh g ends = Some (BlankPart, Open)
@@ -214,7 +237,7 @@ list_stops bs at depth = nat_le (length bs) at || closes bs at depth
 abbrev pub stops : List ℕ → ℕ → ℕ → Bool
 stops bs at depth = slice_index bs at == 44 || list_stops bs at depth
 
--- comments alone stand there, and no complex selector ends behind them
+-- comments alone stand there, and no complex selector ends after them
 pub record IsInsideRun (bs : List ℕ) (at depth : ℕ) : Type 0 where
   pub last : scan_last (Blank Comments) (drop at bs) ≡ Blank Comments
   pub goes_on : stops bs (at + scan_len (Blank Comments) (drop at bs)) depth ≡ false

@@ -34,26 +34,11 @@ written (simple k at t rest) = t ++ written rest
 written (plain k at t args rest) = t ++ 40 ∷ (args ++ 41 ∷ written rest)
 written (nested k at t inner rest) = t ++ 40 ∷ (written inner ++ 41 ∷ written rest)
 
--- parts before others
-abbrev pub followed : Tree → Tree → Tree
-followed none q = q
-followed (comma rest) q = comma (followed rest q)
-followed (gap k at t rest) q = gap k at t (followed rest q)
-followed (simple k at t rest) q = simple k at t (followed rest q)
-followed (plain k at t args rest) q = plain k at t args (followed rest q)
-followed (nested k at t inner rest) q = nested k at t inner (followed rest q)
-
 -- the arguments of a part
 pub data Arguments : Type 0 where
   absent : Arguments
   text : List ℕ → Arguments
   list : Tree → Arguments
-
--- arguments with their parentheses
-abbrev pub enclosed : Arguments → List ℕ
-enclosed absent = []
-enclosed (text t) = 40 ∷ (t ++ 41 ∷ [])
-enclosed (list inner) = 40 ∷ (written inner ++ 41 ∷ [])
 
 -- a part without arguments before others
 abbrev pub bare : PartKind → ℕ → List ℕ → Tree → Tree

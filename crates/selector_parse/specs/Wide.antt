@@ -1,4 +1,4 @@
--- Numbers as words of 64 bits, the lowest first.
+-- The proof's own: numbers as words of 64 bits, the lowest first.
 use Rattle.std.specs.Prelude.{ℕ, zero, suc, ◌+◌, ◌*◌, ◌^◌, List, slice_index}
 
 -- what a 1 counts in a word

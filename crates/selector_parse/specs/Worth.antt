@@ -1,5 +1,6 @@
 -- How specific selectors are.
-use Rattle.std.specs.Prelude.{ℕ, suc, ◌+◌, Bool, true, false, ◌==◌, ◌&&◌, ◌||◌, nat_lt, if◌then◌else◌, List, [], ◌∷◌, codes, min, max}
+use Rattle.std.specs.Prelude.{ℕ, suc, ◌+◌, Bool, false, ◌==◌, ◌&&◌, ◌||◌, nat_lt, if◌then◌else◌, List, [], ◌∷◌, codes, min, max}
+use Rattle.std.specs.List.{ends_with}
 use Rattle.selector_parse.specs.declared.part.PartKind.{PartKind}
 use Rattle.selector_parse.specs.declared.part.PartKind.TheVariants.{Element, Id, Class, Attribute, PseudoClass, PseudoElement}
 use Rattle.selector_parse.specs.declared.part.Part.{Part}
@@ -10,10 +11,8 @@ use Rattle.selector_parse.specs.declared.part.Specificity.{Specificity}
 use Rattle.selector_parse.specs.declared.part.Args.TheOpen.{Args-F, Part-F, Complex-F, Selectors-F, Absent, Plain, List as Listed}
 use Rattle.selector_parse.specs.declared.part.Args.TheFolds.{fold-Args, fold-Part, fold-Complex, fold-Selectors}
 use Rattle.selector_parse.specs.declared.tally.Counts.{Counts}
-use Rattle.selector_parse.specs.declared.reading.Reading.{Reading}
-use Rattle.selector_parse.specs.declared.reading.Reading.TheVariants.{First, Star, Done}
-use Rattle.selector_parse.specs.Reading.{scan_last}
-use Rattle.selector_parse.specs.Grammar.{spelled, takes_list}
+use Rattle.selector_parse.specs.Forms.{is_star}
+use Rattle.selector_parse.specs.Names.{spelled, takes_list}
 
 abbrev pub counts : ℕ → ℕ → ℕ → Counts
 counts a b c = record { a = a; b = b; c = c }
@@ -39,14 +38,9 @@ abbrev pub greatest_from : Counts → List Counts → Counts
 greatest_from x [] = x
 greatest_from x (y ∷ ys) = greatest_from (greater x y) ys
 
--- an Element's name is *
-abbrev pub is_star : Reading → Bool
-is_star Star = true
-is_star Done = true
-is_star q = false
-
+-- an Element's name is *: the text is * or ends with |*
 unfoldable pub names_all : List ℕ → Bool
-names_all t = is_star (scan_last First t)
+names_all t = is_star t || ends_with ◌==◌ t (codes "|*")
 
 unfoldable pub is_where : List ℕ → Bool
 is_where [] = false
@@ -141,5 +135,6 @@ depth_of_complex = fold-Complex ℕ ℕ ℕ ℕ args_depth complex_depth part_de
 abbrev pub depth_of_list : Selectors → ℕ
 depth_of_list = fold-Selectors ℕ ℕ ℕ ℕ args_depth complex_depth part_depth selectors_depth
 
+-- the proof's own: all that is counted
 abbrev pub size : Counts → ℕ
 size x = x.a + x.b + x.c

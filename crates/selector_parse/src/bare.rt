@@ -3,7 +3,7 @@ ghost use Rattle.std.specs.Prelude.{◌≡◌, ◌+◌, ◌-◌, ◌≤◌, ◌<
 ghost use Rattle.std.specs.Str.{chars, IsUtf8, IsCharBoundary};
 ghost use Rattle.selector_parse.specs.Reading.{scan_len, scan_last};
 ghost use Rattle.selector_parse.specs.Tree.{made, part_before, args_of, none, absent};
-ghost use Rattle.selector_parse.specs.Grammar.{comment_next};
+ghost use Rattle.selector_parse.specs.Phases.{comment_next};
 ghost use Rattle.selector_parse.specs.Worth.{depth_of_args, depth_of_part};
 ghost use Rattle.selector_parse.specs.Row.{IsRow, IsInsideRun, OnlyMemory, Halts, gap_choice, takes_gap};
 
@@ -64,7 +64,7 @@ pub fn bare_part(
     Ok(Placed { part, end, phase })
 }
 
-/// The part that blanks and signs make, by what they hold and whether the complex selector ends behind them; and what may
+/// The part that blanks and signs make, by what they hold and whether the complex selector ends after them; and what may
 /// follow. `None` for comments inside a compound.
 pub fn gap_kind(phase: Phase, gap: Gap, stops: bool) -> Option<(PartKind, Phase)>
     ensures { result ≡ gap_choice phase gap stops }

@@ -2,7 +2,8 @@
 ghost use Rattle.std.specs.Prelude.{◌≡◌, map};
 ghost use Rattle.std.specs.Char.{to_ascii_lowercase};
 ghost use Rattle.std.specs.Str.{chars};
-ghost use Rattle.selector_parse.specs.Grammar.{spelled, is_legacy as is_legacy_of, is_logical as is_logical_of, pseudo_kind as pseudo_kind_of, kind_of as kind_of_text, takes_list as takes_list_of};
+ghost use Rattle.selector_parse.specs.Names.{spelled, is_legacy as is_legacy_of, is_logical as is_logical_of, takes_list as takes_list_of};
+ghost use Rattle.selector_parse.specs.Phases.{pseudo_kind as pseudo_kind_of, kind_of as kind_of_text};
 ghost use Rattle.selector_parse.specs.Worth.{is_where as is_where_of};
 
 use crate::part::PartKind;
@@ -16,7 +17,7 @@ fn is_spelled(name: &[u8], word: &[u8]) -> bool
 }
 
 /// A pseudo-element that one colon may begin.
-#[tactic(auto, unfolding(crate::specs::Grammar::is_legacy))]
+#[tactic(auto, unfolding(crate::specs::Names::is_legacy))]
 fn is_legacy(name: &[u8]) -> bool
     ensures { result ≡ is_legacy_of name.now }
 {
@@ -27,7 +28,7 @@ fn is_legacy(name: &[u8]) -> bool
 }
 
 /// A pseudo-class whose arguments are a list.
-#[tactic(auto, unfolding(crate::specs::Grammar::is_logical))]
+#[tactic(auto, unfolding(crate::specs::Names::is_logical))]
 fn is_logical(name: &[u8]) -> bool
     ensures { result ≡ is_logical_of name.now }
 {
@@ -61,7 +62,7 @@ pub fn kind_of(text: &[u8]) -> PartKind
     }
 }
 
-/// The arguments behind this text are a list.
+/// The arguments after this text are a list.
 pub fn takes_list(text: &[u8]) -> bool
     ensures { result ≡ takes_list_of text.now }
 {
@@ -88,7 +89,7 @@ pub fn is_where(text: &str) -> bool
     spells_where(text.as_bytes())
 }
 
-/// Arguments behind this text are a list.
+/// Arguments after this text are a list.
 pub fn is_logical_class(text: &str) -> bool
     ensures { result ≡ takes_list_of (chars text.now) }
 {

@@ -2,9 +2,10 @@
 ghost use Rattle.std.specs.Prelude.{◌≡◌, ◌==◌, ◌||◌, ◌++◌, ◌∷◌, [], IfOk, OnOk, true, map, length};
 ghost use Rattle.std.specs.Str.{chars};
 ghost use Rattle.std.specs.String.{string_bytes};
-ghost use Rattle.selector_parse.specs.Reading.{is_symbol as is_symbol_of};
+ghost use Rattle.selector_parse.specs.Forms.{is_symbol as is_symbol_of};
 ghost use Rattle.selector_parse.specs.Row.{comma_unless};
-ghost use Rattle.selector_parse.specs.Normal.{IsNormal, is_between as is_between_of, sign as sign_of, all_of, joined, normal_of_args, normal_of_part, normal_of_complex, normal_bytes};
+ghost use Rattle.selector_parse.specs.Reading.{is_between as is_between_of, read_sign};
+ghost use Rattle.selector_parse.specs.Normal.{IsNormal, all_of, joined, normal_of_args, normal_of_part, normal_of_complex, normal_bytes};
 
 use crate::part::{Args, Complex, Part, PartKind, Selectors};
 use crate::print::write_comma;
@@ -20,7 +21,7 @@ fn is_between(reading: Reading) -> bool
 
 /// The sign of a combinator, on its bytes; a space where it has none.
 fn sign(s: &[u8]) -> u8
-    ensures value { result ≡ sign_of s.now }
+    ensures value { result ≡ read_sign s.now }
     ensures known { (result == 32 || is_symbol_of result) ≡ true }
 {
     let mut reading = Reading::Blank(Gap::Comments);
@@ -36,7 +37,7 @@ fn sign(s: &[u8]) -> u8
     b' '
 }
 
-/// A combinator's normal form goes behind what is written.
+/// A combinator's normal form goes after what is written.
 fn write_sign(text: &mut String, sign: u8) -> Result<(), AllocError>
     requires { (sign == 32 || is_symbol_of sign) ≡ true }
     ensures { OnOk result (chars (string_bytes text.new)
@@ -46,7 +47,7 @@ fn write_sign(text: &mut String, sign: u8) -> Result<(), AllocError>
     Ok(())
 }
 
-/// Arguments in normal form go behind what is written.
+/// Arguments in normal form go after what is written.
 #[cycle(normal)]
 fn write_args(text: &mut String, args: &Args) -> Result<(), AllocError>
     ensures { OnOk result (chars (string_bytes text.new)
@@ -69,7 +70,7 @@ fn write_args(text: &mut String, args: &Args) -> Result<(), AllocError>
     }
 }
 
-/// A part in normal form goes behind what is written.
+/// A part in normal form goes after what is written.
 #[cycle(normal)]
 fn write_part(text: &mut String, part: &Part) -> Result<(), AllocError>
     ensures { OnOk result (chars (string_bytes text.new)
@@ -89,7 +90,7 @@ fn write_part(text: &mut String, part: &Part) -> Result<(), AllocError>
     }
 }
 
-/// Parts in normal form, one after another, go behind what is written.
+/// Parts in normal form, one after another, go after what is written.
 #[cycle(normal)]
 fn write_parts(text: &mut String, parts: &[Part]) -> Result<(), AllocError>
     ensures { OnOk result (chars (string_bytes text.new)
@@ -101,7 +102,7 @@ fn write_parts(text: &mut String, parts: &[Part]) -> Result<(), AllocError>
     Ok(())
 }
 
-/// Complex selectors in normal form with commas between them go behind what is written.
+/// Complex selectors in normal form with commas between them go after what is written.
 #[cycle(normal)]
 fn write_list(text: &mut String, list: &[Complex]) -> Result<(), AllocError>
     ensures { OnOk result (chars (string_bytes text.new)

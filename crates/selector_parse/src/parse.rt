@@ -3,7 +3,8 @@ ghost use Rattle.std.specs.Prelude.{◌≡◌, ◌==◌, ◌&&◌, ◌+◌, ◌-
 ghost use Rattle.std.specs.Str.{chars, IsUtf8, IsCharBoundary};
 ghost use Rattle.selector_parse.specs.Reading.{scan_len, scan_last, is_final as is_final_of};
 ghost use Rattle.selector_parse.specs.Tree.{made, part_before, complex_before, args_of, none, tree_of, in_turn, with_commas, written, absent, text as plain_text};
-ghost use Rattle.selector_parse.specs.Grammar.{Selects, comment_next, may_end as may_end_of};
+ghost use Rattle.selector_parse.specs.Grammar.{Selects};
+ghost use Rattle.selector_parse.specs.Phases.{comment_next, may_end as may_end_of};
 ghost use Rattle.selector_parse.specs.Fault.{Stops};
 ghost use Rattle.selector_parse.specs.Worth.{deepest, depth_of_args, depth_of_part, depth_of_complex, depth_of_list};
 ghost use Rattle.selector_parse.specs.Row.{IsRow, IsEnded, IsArguments, IsClosedText, IsListText, IsInsideRun, OnlyMemory, Halts, NameHalts, ListHalts, TextHalts, gap_choice, takes_gap, reads_blanks as reads_blanks_of, is_blank_list as is_blank_list_of, complex_parts, list_parts, closes as closes_of, list_stops as list_stops_of, stops as stops_of};
@@ -24,7 +25,7 @@ use std::alloc::{AllocError, Global};
 /// At most so many parentheses are open at once.
 const MOST_DEPTH: usize = 100;
 
-/// One more behind the others.
+/// One more after the others.
 fn push<T: Drop>(list: &mut Vec<T>, item: T) -> Result<(), AllocError>
     ensures { OnOk result (list.new.items ≡ list.old.items ++ item ∷ []) }
 {
@@ -32,7 +33,7 @@ fn push<T: Drop>(list: &mut Vec<T>, item: T) -> Result<(), AllocError>
     Ok(())
 }
 
-/// Arguments that are no list, from the byte `from` behind their `(`.
+/// Arguments that are no list, from the byte `from` after their `(`.
 fn plain_arguments(
     alloc: Global,
     src: &str,
@@ -57,7 +58,7 @@ fn plain_arguments(
     })
 }
 
-/// Arguments that are a list, or blanks alone, from the byte `from` behind their `(`.
+/// Arguments that are a list, or blanks alone, from the byte `from` after their `(`.
 #[cycle(parse)]
 fn list_arguments(alloc: Global, src: &str, from: usize, depth: usize) -> Result<Arguments, Failure>
     requires utf8 { IsUtf8 src.now }
@@ -83,7 +84,7 @@ fn list_arguments(alloc: Global, src: &str, from: usize, depth: usize) -> Result
     })
 }
 
-/// The arguments behind the simple selector that stands from the byte `at` to the byte `end`, inside so many parentheses.
+/// The arguments after the simple selector that stands from the byte `at` to the byte `end`, inside so many parentheses.
 #[cycle(parse)]
 fn arguments_from(
     alloc: Global,

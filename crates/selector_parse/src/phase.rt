@@ -1,6 +1,6 @@
 // What stands before a part of a complex selector.
 ghost use Rattle.std.specs.Prelude.{◌≡◌};
-ghost use Rattle.selector_parse.specs.Grammar.{may_end as may_end_of, starts as starts_of};
+ghost use Rattle.selector_parse.specs.Phases.{may_end as may_end_of, starts as starts_of};
 
 use crate::reading::Reading;
 

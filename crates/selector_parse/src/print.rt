@@ -2,14 +2,14 @@
 ghost use Rattle.std.specs.Prelude.{◌≡◌, ◌++◌, IfOk, OnOk};
 ghost use Rattle.std.specs.Str.{chars};
 ghost use Rattle.std.specs.String.{string_bytes};
-ghost use Rattle.selector_parse.specs.Tree.{written, none, tree_of, args_of, part_before, enclosed};
-ghost use Rattle.selector_parse.specs.Row.{complex_parts, comma_unless, list_parts};
+ghost use Rattle.selector_parse.specs.Tree.{written, none, tree_of, args_of, part_before};
+ghost use Rattle.selector_parse.specs.Row.{complex_parts, comma_unless, list_parts, enclosed};
 
 use crate::part::{Args, Complex, Part, Selectors};
 use css_text::txt::Txt;
 use std::alloc::{AllocError, Global};
 
-/// Arguments with their parentheses go behind what is written.
+/// Arguments with their parentheses go after what is written.
 #[cycle(write)]
 fn write_args(text: &mut String, args: &Args) -> Result<(), AllocError>
     ensures { OnOk result (chars (string_bytes text.new)
@@ -32,7 +32,7 @@ fn write_args(text: &mut String, args: &Args) -> Result<(), AllocError>
     }
 }
 
-/// The text of one part goes behind what is written.
+/// The text of one part goes after what is written.
 #[cycle(write)]
 fn write_part(text: &mut String, part: &Part) -> Result<(), AllocError>
     ensures { OnOk result (chars (string_bytes text.new)
@@ -43,7 +43,7 @@ fn write_part(text: &mut String, part: &Part) -> Result<(), AllocError>
     Ok(())
 }
 
-/// The texts of parts, one after another, go behind what is written.
+/// The texts of parts, one after another, go after what is written.
 #[cycle(write)]
 fn write_parts(text: &mut String, parts: &[Part]) -> Result<(), AllocError>
     ensures { OnOk result (chars (string_bytes text.new)
@@ -55,7 +55,7 @@ fn write_parts(text: &mut String, parts: &[Part]) -> Result<(), AllocError>
     Ok(())
 }
 
-/// A comma goes behind what is written, but before the first.
+/// A comma goes after what is written, but before the first.
 pub fn write_comma(text: &mut String, is_first: bool) -> Result<(), AllocError>
     ensures { OnOk result (chars (string_bytes text.new)
         ≡ chars (string_bytes text.old) ++ comma_unless is_first) }
@@ -67,7 +67,7 @@ pub fn write_comma(text: &mut String, is_first: bool) -> Result<(), AllocError>
     Ok(())
 }
 
-/// The texts of complex selectors with commas between them go behind what is written.
+/// The texts of complex selectors with commas between them go after what is written.
 #[cycle(write)]
 fn write_list(text: &mut String, list: &[Complex]) -> Result<(), AllocError>
     ensures { OnOk result (chars (string_bytes text.new)

@@ -1,6 +1,7 @@
 // What has been read of a part, byte by byte.
 ghost use Rattle.std.specs.Prelude.{◌≡◌, ◌==◌, ◌||◌, if◌then◌else◌};
-ghost use Rattle.selector_parse.specs.Reading.{is_name as is_name_of, is_break as is_break_of, is_symbol as is_symbol_of, unit as unit_of, quote as quote_of, first as first_of, next as next_of, blank as blank_of, before_symbol as before_symbol_of, noted as noted_of, spaced as spaced_of, within as within_of, step as step_of, is_final as is_final_of};
+ghost use Rattle.selector_parse.specs.Forms.{is_name_char, is_break as is_break_of, is_symbol as is_symbol_of};
+ghost use Rattle.selector_parse.specs.Reading.{unit as unit_of, quote as quote_of, first as first_of, next as next_of, blank as blank_of, before_symbol as before_symbol_of, noted as noted_of, spaced as spaced_of, within as within_of, step as step_of, is_final as is_final_of};
 
 use css_text::scan::{is_quote, is_space};
 
@@ -71,7 +72,7 @@ pub enum Reading {
 
 /// An ASCII letter or digit, `-`, `_`, or part of a character past ASCII.
 fn is_name(b: u8) -> bool
-    ensures { result ≡ is_name_of b }
+    ensures { result ≡ is_name_char b }
 {
     b.is_ascii_alphanumeric() || b == b'-' || b == b'_' || b >= 128
 }

@@ -2,26 +2,28 @@
 ghost use Rattle.std.specs.Prelude.{◌≡◌, ◌+◌, ◌<◌, ◌≤◌, map};
 ghost use Rattle.std.specs.Str.{chars};
 ghost use Rattle.selector_parse.specs.Wide.{weight};
-ghost use Rattle.selector_parse.specs.Worth.{own, is_star as is_star_of, names_all as names_all_of, is_group as is_group_of, plus, worth_of_part, worth_of_complex, sum_from, greatest_from, nothing, size, cut, deepest, depth_of_part, depth_of_complex};
+ghost use Rattle.selector_parse.specs.Worth.{own, names_all as names_all_of, is_group as is_group_of, plus, worth_of_part, worth_of_complex, sum_from, greatest_from, nothing, cut, deepest, depth_of_part, depth_of_complex, size};
 
 use crate::names::{is_logical_class, is_where};
 use crate::part::{Args, Complex, Part, PartKind, Specificity};
-use crate::reading::Reading;
-use crate::scan::scan;
 use crate::tally::Counts;
 
-fn is_star(reading: Reading) -> bool
-    ensures { result ≡ is_star_of reading }
+/// The text is `*` or ends with `|*`.
+#[tactic(auto, unfolding(crate::specs::Worth::names_all))]
+fn spells_all(text: &[u8]) -> bool
+    ensures { result ≡ names_all_of text.now }
 {
-    matches!(reading, Reading::Star | Reading::Done)
+    match text {
+        [b'*'] => true,
+        _ => text.ends_with(b"|*"),
+    }
 }
 
 /// An Element's name is `*`.
 fn names_all(text: &str) -> bool
     ensures { result ≡ names_all_of (chars text.now) }
 {
-    let (_end, reading) = scan(text.as_bytes(), 0, Reading::First);
-    is_star(reading)
+    spells_all(text.as_bytes())
 }
 
 /// What a simple selector counts without arguments goes on top.

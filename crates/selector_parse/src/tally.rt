@@ -1,7 +1,7 @@
 // Counts of ids, of classes and of elements.
 ghost use Rattle.std.specs.Prelude.{◌≡◌, ◌+◌, ◌<◌};
 ghost use Rattle.selector_parse.specs.Wide.{weight};
-ghost use Rattle.selector_parse.specs.Worth.{nothing as nothing_of, plus, is_less as is_less_of, greater as greater_of, size, cut as cut_of};
+ghost use Rattle.selector_parse.specs.Worth.{nothing as nothing_of, plus, is_less as is_less_of, greater as greater_of, cut as cut_of, size};
 
 use crate::part::Specificity;
 use crate::wide::Wide;

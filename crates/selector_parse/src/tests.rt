@@ -131,7 +131,7 @@ fn selectors(rt: HostRuntime) -> Result<(), Fail> {
     reads(&rt, rt.alloc(), &rows)
 }
 
-// Each text's fault stands behind its longest front with which some list begins.
+// Each text's fault stands after its longest front with which some list begins.
 #[test]
 fn faults(rt: HostRuntime) -> Result<(), Fail> {
     let rows = [

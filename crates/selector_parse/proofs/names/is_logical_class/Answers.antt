@@ -1,5 +1,5 @@
 use Rattle.std.proofs.Common.{ap, ◌∙◌}
-use Rattle.selector_parse.specs.Grammar.{takes_list}
+use Rattle.selector_parse.specs.Names.{takes_list}
 use Rattle.selector_parse.proofs.KindBytes.{list_chars}
 use Rattle.selector_parse.proofs.names.is_logical_class.Goals as goal
 

@@ -3,10 +3,12 @@ use Rattle.std.specs.Str.{chars}
 use Rattle.std.specs.String.{string_bytes}
 use Rattle.std.proofs.lemmas.List.{drop_more, drop_all, append_assoc}
 use Rattle.selector_parse.specs.declared.part.Args.TheViews.{out-Part}
-use Rattle.selector_parse.specs.Row.{comma_unless}
-use Rattle.selector_parse.specs.Normal.{sign, normal_part, all_of, joined, rest_joined, normal_of_args, normal_of_part, normal_of_complex}
+use Rattle.selector_parse.specs.Row.{comma_unless, rest_joined}
+use Rattle.selector_parse.specs.Reading.{read_sign}
+use Rattle.selector_parse.specs.Normal.{normal_part, all_of, joined, normal_of_args, normal_of_part, normal_of_complex}
 use Rattle.selector_parse.proofs.Printed.{normal_other, joined_cons, joined_nil, push_chars, push_open, push_close, enclose}
 use Rattle.selector_parse.proofs.Signs.{sign-bytes}
+use Rattle.selector_parse.proofs.SignForms.{signs_is}
 use Rattle.selector_parse.proofs.Trees.{normal_out, normal_complex, normal_plain, normal_list}
 use Rattle.selector_parse.proofs.normal.+normal.Goals as goal
 
@@ -27,7 +29,7 @@ pub write_part-returns-in_ok-write_sign-in-Combinator : goal.write_part-returns-
 write_part-returns-in_ok-write_sign-in-Combinator t c =
     let p = c.args.part.now in
     let s = chars (string_bytes c.args.text.now) in
-    c.in_ok-write_sign-in-Combinator.ensures ∙ ap (λ x. s ++ x ∷ []) (c.sign.ensures.value ∙ ap sign (c.as_bytes.ensures.value ∙ c.as_str.ensures.bytes) ∙ sign-bytes (out-Part p).text)
+    c.in_ok-write_sign-in-Combinator.ensures ∙ ap (λ x. s ++ x ∷ []) (c.sign.ensures.value ∙ ap read_sign (c.as_bytes.ensures.value ∙ c.as_str.ensures.bytes) ∙ sign-bytes (out-Part p).text ∙ signs_is (out-Part p).text)
     ∙ ap (λ x. s ++ x) (sym (normal_out p ∙ ap (λ k. normal_part k (out-Part p).text (normal_of_args (out-Part p).args)) c.in-Combinator.is))
 
 pub write_part-returns-in_ok-write_args-in_default : goal.write_part-returns-in_ok-write_args-in_default

@@ -1,8 +1,9 @@
 use Rattle.std.proofs.Common.{◌≡◌, ◌++◌, drop, map, true}
 use Rattle.std.specs.Str.{chars}
 use Rattle.std.specs.String.{string_bytes}
-use Rattle.selector_parse.specs.Normal.{all_of, normal_of_part, normal_of_complex, rest_joined}
+use Rattle.selector_parse.specs.Normal.{all_of, normal_of_part, normal_of_complex}
 use Rattle.selector_parse.proofs.normal.+normal.Given as goal
+use Rattle.selector_parse.specs.Row.{rest_joined}
 
 abbrev pub invariant-write_parts-loop-part : goal.invariant-write_parts-loop-part
 invariant-write_parts-loop-part l =

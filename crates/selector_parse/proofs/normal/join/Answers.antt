@@ -1,8 +1,7 @@
 use Rattle.std.proofs.Common.{◌≡◌, ◌+◌, false, ◌∷◌, ◌++◌, drop, map, ap, sym, ◌∙◌, arith, append-nil}
 use Rattle.std.specs.String.{string_bytes}
 use Rattle.std.proofs.lemmas.List.{drop_more, drop_all, append_assoc}
-use Rattle.selector_parse.specs.Row.{comma_unless}
-use Rattle.selector_parse.specs.Normal.{rest_joined}
+use Rattle.selector_parse.specs.Row.{comma_unless, rest_joined}
 use Rattle.selector_parse.proofs.Printed.{comma_bytes, joined_cons, joined_nil}
 use Rattle.selector_parse.proofs.normal.join.Goals as goal
 

@@ -7,13 +7,15 @@ use Rattle.selector_parse.specs.declared.reading.Within.TheVariants.{Parentheses
 use Rattle.selector_parse.specs.declared.reading.Reading.TheVariants.{Text, Blank}
 use Rattle.selector_parse.specs.declared.reading.Gap.TheVariants.{Comments}
 use Rattle.selector_parse.specs.Reading.{scan_len, scan_last}
-use Rattle.selector_parse.specs.Tree.{none, comma, written, followed, made, list, args_of, part_before}
-use Rattle.selector_parse.specs.Grammar.{kind_of, may_end, takes_list, most_depth}
+use Rattle.selector_parse.specs.Tree.{none, comma, written, made, list, args_of, part_before}
+use Rattle.selector_parse.specs.Names.{takes_list}
+use Rattle.selector_parse.specs.Grammar.{most_depth}
+use Rattle.selector_parse.specs.Phases.{kind_of, may_end}
 use Rattle.selector_parse.specs.Machine.{blank_list}
 use Rattle.std.proofs.lemmas.Bool.{and_parts, false≢true}
 use Rattle.std.proofs.lemmas.Str.{encodes_same}
 use Rattle.selector_parse.specs.declared.part.Args.TheViews.{roll-Complex}
-use Rattle.selector_parse.specs.Row.{IsRow, IsClosedText, IsListText, IsArguments, IsEnded, complex_parts, list_parts, stops, reads_blanks, is_blank_list}
+use Rattle.selector_parse.specs.Row.{IsRow, IsClosedText, IsListText, IsArguments, IsEnded, complex_parts, list_parts, stops, reads_blanks, is_blank_list, followed}
 use Rattle.selector_parse.proofs.Scanned.{ahead_of, scanned_by}
 use Rattle.selector_parse.proofs.Rows.{stops_text, empty_row, row_append, row_boundary, no_arguments, simple_row, if_ok_map}
 use Rattle.selector_parse.proofs.Trees.{deepest-push, deepest-nil, complex_deep, args_absent, args_list, parts-push, tree_roll, complex_roll}

@@ -2,8 +2,8 @@ use Rattle.std.proofs.Common.{◌≡◌, ◌+◌, false, ◌∷◌, ◌++◌, dr
 use Rattle.std.specs.Str.{chars}
 use Rattle.std.specs.String.{string_bytes}
 use Rattle.std.proofs.lemmas.List.{drop_more, drop_all, append_assoc}
-use Rattle.selector_parse.specs.Tree.{list, written, enclosed, args_of}
-use Rattle.selector_parse.specs.Row.{complex_parts, list_parts, rest_list, comma_unless}
+use Rattle.selector_parse.specs.Tree.{list, written, args_of}
+use Rattle.selector_parse.specs.Row.{complex_parts, list_parts, rest_list, comma_unless, enclosed}
 use Rattle.selector_parse.specs.declared.part.Args.TheViews.{out-Part, out-Complex}
 use Rattle.selector_parse.proofs.Printed.{part_written, parts_cons, list_cons, nothing_left, push_chars, push_open, push_close, enclose}
 use Rattle.selector_parse.proofs.Trees.{args_plain, args_list, selectors_out}

@@ -1,5 +1,5 @@
 use Rattle.std.proofs.Common.{drop, ◌+◌, ◌≤◌, map, length, arith, sym, ap, ◌∙◌}
-use Rattle.selector_parse.specs.Worth.{is_group, greater, plus, worth_of_part, worth_of_complex, sum_from, greatest_from, nothing, size, deepest, depth_of_part, depth_of_complex}
+use Rattle.selector_parse.specs.Worth.{is_group, greater, plus, worth_of_part, worth_of_complex, sum_from, greatest_from, nothing, deepest, depth_of_part, depth_of_complex, size}
 use Rattle.selector_parse.specs.declared.part.Args.TheViews.{out-Part}
 use Rattle.selector_parse.specs.Wide.{weight}
 use Rattle.selector_parse.proofs.Words.{weight_pos, weight_mono}

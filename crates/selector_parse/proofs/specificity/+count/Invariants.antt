@@ -1,6 +1,6 @@
 use Rattle.std.proofs.Common.{◌≡◌, ◌*◌, ◌+◌, ◌≤◌, drop, map}
 use Rattle.selector_parse.specs.Wide.{weight}
-use Rattle.selector_parse.specs.Worth.{worth_of_part, worth_of_complex, sum_from, greatest_from, nothing, size, deepest, depth_of_part, depth_of_complex}
+use Rattle.selector_parse.specs.Worth.{worth_of_part, worth_of_complex, sum_from, greatest_from, nothing, deepest, depth_of_part, depth_of_complex, size}
 use Rattle.selector_parse.proofs.specificity.+count.Given as goal
 
 abbrev pub decreases-list_counts : goal.decreases-list_counts
