@@ -38,6 +38,7 @@ Modes = (known_mode (primary_of BlockNoEmpty) (boolean true) ≡ Some (mode.On O
     × (known_mode (primary_of SelectorMaxSpecificity) (string (codes "0,12,65535")) ≡ Some (mode.On (Limit 0 12 65535) None))
     × (known_mode (primary_of SelectorMaxSpecificity) (string (codes "0,12")) ≡ None)
     × (known_mode (primary_of SelectorMaxSpecificity) (string (codes "0,12,1,2")) ≡ None)
+    × (known_mode (primary_of SelectorMaxSpecificity) (string (codes "0,012,1")) ≡ None)
     × (mode_of None (array (item null no_items)) ≡ Some Off)
     × (mode_of None (boolean true) ≡ Some Unknown)
 

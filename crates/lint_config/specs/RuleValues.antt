@@ -1,5 +1,5 @@
 -- What a value in a configuration sets a rule to.
-use Rattle.std.specs.Prelude.{ℕ, ◌==◌, ◌&&◌, Bool, true, false, List, nat_le, nat_lt, codes, bytes_eq, length, Option, Some, None, is_some, option_map, option_and_then, if◌then◌else◌}
+use Rattle.std.specs.Prelude.{ℕ, ◌==◌, ◌&&◌, not, Bool, true, false, List, [], ◌∷◌, nat_le, nat_lt, codes, bytes_eq, length, Option, Some, None, is_some, option_map, option_and_then, if◌then◌else◌}
 use Rattle.std.specs.Option.{option_map_or}
 use Rattle.std.specs.List.{list_all, before_first, after_first}
 use Rattle.std.specs.Char.{is_ascii_digit}
@@ -18,9 +18,19 @@ use Rattle.lint_config.specs.declared.config.Mode.TheVariants.{Off, Unknown}
 use Rattle.lint_config.specs.declared.config.Mode.TheVariants as mode
 use Rattle.lint_config.specs.Rules.{primary_of}
 
+-- whether a zero stands before another character
+abbrev pub has_leading_zero : List ℕ → Bool
+has_leading_zero [] = false
+has_leading_zero (c ∷ []) = false
+has_leading_zero (c ∷ d ∷ s) = c == 48
+
+-- digits without a leading zero, so that each number is written in one way
+unfoldable pub is_numeral : List ℕ → Bool
+is_numeral s = list_all is_ascii_digit s && not (has_leading_zero s)
+
 -- the number from 0 to 65535 that digits write, at least one
 abbrev pub short_number : List ℕ → Option ℕ
-short_number s = if list_all is_ascii_digit s && nat_lt 0 (length s) && nat_lt (digits_value 10 s) 65536 then Some (digits_value 10 s) else None
+short_number s = if nat_lt 0 (length s) && is_numeral s && nat_lt (digits_value 10 s) 65536 then Some (digits_value 10 s) else None
 
 abbrev pub limit_from : Option ℕ → Option ℕ → Option ℕ → Option Choice
 limit_from (Some a) (Some b) (Some c) = Some (Limit a b c)

@@ -85,6 +85,8 @@ fn options_of_rules(rt: HostRuntime) -> Result<(), Fail> {
         ("selector-max-specificity", "\"0,1\""),
         ("selector-max-specificity", "\"0,1,2,3\""),
         ("selector-max-specificity", "\"0,,2\""),
+        ("selector-max-specificity", "\"0,00,0\""),
+        ("selector-max-specificity", "\"0,1,007\""),
         ("color-hex-length", "\"single\""),
         ("selector-pseudo-element-colon-notation", "\"\""),
         ("comment-whitespace-inside", "\"never\""),
@@ -109,7 +111,7 @@ fn options_that_are_taken(rt: HostRuntime) -> Result<(), Fail> {
     let cases = [
         (r#"{"rules":{"max-nesting-depth":1000}}"#, "read"),
         (
-            r#"{"rules":{"selector-max-specificity":"0,007,65535"}}"#,
+            r#"{"rules":{"selector-max-specificity":"0,70,65535"}}"#,
             "read",
         ),
         (r#"{"rules":{"block-no-empty":null,"a":{"a":[]}}}"#, "read"),

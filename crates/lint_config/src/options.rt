@@ -3,7 +3,7 @@ ghost use Rattle.std.specs.Prelude.{◌≡◌};
 ghost use Rattle.std.specs.List.{list_all};
 ghost use Rattle.std.specs.Char.{is_ascii_digit};
 ghost use Rattle.serde_json.specs.View.{view, number_view, items_view};
-ghost use Rattle.lint_config.specs.RuleValues.{choice_of, word_choice, number_choice, flag_choice, limit_of, short_number as number_of, severity_of, secondary_of, mode_with as primary_mode, mode_of_items as items_mode, known_mode as rule_mode, turns_off as is_off, mode_of as mode_by};
+ghost use Rattle.lint_config.specs.RuleValues.{choice_of, word_choice, number_choice, flag_choice, limit_of, has_leading_zero, is_numeral, short_number as number_of, severity_of, secondary_of, mode_with as primary_mode, mode_of_items as items_mode, known_mode as rule_mode, turns_off as is_off, mode_of as mode_by};
 
 use crate::config::Mode;
 use crate::rule::{Primary, Rule};
@@ -37,11 +37,24 @@ fn all_digits(text: &str) -> bool
     text.bytes().all(|byte| byte.is_ascii_digit())
 }
 
-/// The number from 0 to 65535 that digits write. A sign is none.
+fn leads_with_zero(text: &str) -> bool
+    ensures { result ≡ has_leading_zero text.now }
+{
+    matches!(text.as_bytes(), [b'0', _, ..])
+}
+
+#[tactic(auto, unfolding(crate::specs::RuleValues::is_numeral))]
+fn is_numeral(text: &str) -> bool
+    ensures { result ≡ is_numeral text.now }
+{
+    all_digits(text) && !leads_with_zero(text)
+}
+
+/// The number from 0 to 65535 that digits write, without a sign and without a leading zero.
 fn short_number(text: &str) -> Option<u16>
     ensures { result ≡ number_of text.now }
 {
-    if all_digits(text) {
+    if is_numeral(text) {
         text.parse().ok()
     } else {
         None

@@ -2,6 +2,7 @@ use Rattle.std.proofs.Common.{refl}
 use Rattle.std.specs.Fmt.{digits}
 use Rattle.std.specs.Str.{chars}
 use Rattle.lint_config.specs.Rules.{entry_of, all_rules}
+use Rattle.lint_config.specs.RuleValues.{is_numeral}
 use Rattle.lint_config.specs.Glob.{glob_of}
 use Rattle.lint_config.specs.Resolved.{modes_for}
 use Rattle.lint_config.proofs.laws.examples.Goals as goal
@@ -19,8 +20,8 @@ unfolding entry_of all_rules digits
 returns-clause-refusals c = (refl, refl, refl, refl)
 
 pub returns-clause-modes : goal.returns-clause-modes
-unfolding entry_of
-returns-clause-modes c = (refl, refl, refl, refl, refl, refl, refl, refl, refl)
+unfolding entry_of is_numeral
+returns-clause-modes c = (refl, refl, refl, refl, refl, refl, refl, refl, refl, refl)
 
 pub returns-clause-resolves : goal.returns-clause-resolves
 unfolding entry_of all_rules glob_of modes_for chars
