@@ -8,7 +8,8 @@ use Rattle.source_map.specs.declared.segment.Segment.{Segment}
 use Rattle.source_map.specs.declared.segment.Origin.{Origin}
 use Rattle.source_map.specs.declared.last.Last.{Last}
 use Rattle.source_map.specs.Vlq.{digits, digit_code}
-use Rattle.source_map.specs.Written.{written, nothing_yet, after, field_text, origin_text, segment_text, mappings_text, difference, last_column}
+use Rattle.source_map.specs.Written.{field_text, origin_text, difference}
+use Rattle.source_map.specs.Running.{written, nothing_yet, after, segment_text, running_text, last_column}
 
 code_small : (d : ℕ) → d < 64 → digit_code d < 128
 code_small d h = grind (arith, common_steps)
@@ -47,5 +48,5 @@ written_small l [] = IsAscii-nil
 written_small l (g ∷ gs) = IsAscii-append _ _ (separator_by (l.line == g.line) l.is_first (g.line - l.line)) (IsAscii-append _ _ (segment_small l g) (written_small (after l g) gs))
 
 -- its characters are its bytes
-pub chars-mappings_text : (gs : List Segment) → chars (mappings_text gs) ≡ mappings_text gs
-chars-mappings_text gs = chars-IsAscii (mappings_text gs) (written_small nothing_yet gs)
+pub chars-running_text : (gs : List Segment) → chars (running_text gs) ≡ running_text gs
+chars-running_text gs = chars-IsAscii (running_text gs) (written_small nothing_yet gs)

@@ -6,9 +6,10 @@ use Rattle.source_map.specs.declared.segment.Segment.{Segment}
 use Rattle.source_map.specs.declared.segment.Origin.{Origin}
 use Rattle.source_map.specs.declared.last.Last.{Last}
 use Rattle.source_map.specs.Vlq.{digits, digit_code, digit_of, numbers, number_text, with_number, with_low_digit}
-use Rattle.source_map.specs.Written.{after, field_text, origin_text, segment_text, difference, last_column}
-use Rattle.source_map.specs.Decode.{moved, is_separator, plain_segment, full_segment, origin_of, moved_origin, segment_from, segment_by, segment_in, or_fault}
+use Rattle.source_map.specs.Written.{field_text, origin_text, difference}
+use Rattle.source_map.specs.Decode.{moved, is_separator, plain_segment, full_segment, origin_of, moved_origin, or_fault}
 use Rattle.source_map.specs.Laws.{FitsOrigin, FitsIfAny, FitsSegment}
+use Rattle.source_map.specs.Running.{after, segment_text, last_column, segment_from, segment_by, segment_in}
 
 known_code : (d : ℕ) → d < 64 → digit_of (digit_code d) ≡ Some d
 unfolding digit_of

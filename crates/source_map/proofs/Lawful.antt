@@ -7,9 +7,10 @@ use Rattle.source_map.specs.declared.segment.Origin.{Origin}
 use Rattle.source_map.specs.declared.last.Last.{Last}
 use Rattle.source_map.specs.Vlq.{digits, digit_code}
 use Rattle.source_map.specs.Lines.{line_of}
-use Rattle.source_map.specs.Written.{written, nothing_yet, after, separator, field_text, origin_text, segment_text, mappings_text, difference, last_column}
-use Rattle.source_map.specs.Decode.{Slot, slots, with_first, is_separator, decoded, decoded_slot, decoded_by, with_segment, segment_in, decode}
+use Rattle.source_map.specs.Written.{field_text, origin_text, difference}
+use Rattle.source_map.specs.Decode.{Slot, slots, with_first, is_separator, decoded_by, with_segment}
 use Rattle.source_map.specs.Laws.{FitsSegment}
+use Rattle.source_map.specs.Running.{written, nothing_yet, after, separator, segment_text, running_text, last_column, decoded, decoded_slot, segment_in, running_decode}
 use Rattle.source_map.proofs.Slots.{first_by, other_by}
 use Rattle.source_map.proofs.Back.{not_separator, FitsLast, segment_back, fits_after}
 
@@ -165,8 +166,8 @@ start_lines line text = by (0 == line) refl
     by false e = (0 + (line - 0), rw e (lines_then nothing_yet (line - 0) 0 0 text ∙ ap (λ n. decoded nothing_yet (slots n (0 + (line - 0)) text)) (omega arith)))
 
 -- the same from the start of the text
-start_back : (gs : List Segment) → IsRising 0 gs → decode (mappings_text gs) ≡ Ok gs
-unfolding decode written decoded slots
+start_back : (gs : List Segment) → IsRising 0 gs → running_decode (running_text gs) ≡ Ok gs
+unfolding running_decode written decoded slots
 start_back [] r = refl
 start_back (g ∷ gs) (next line k ks a b c) =
     let s = start_lines g.line (segment_text nothing_yet g ++ written (after nothing_yet g) gs) in
@@ -176,5 +177,5 @@ rising_from : (line : ℕ) (gs : List Segment) → ((i : ℕ) (d : Segment) → 
 rising_from line [] h o f = end line
 rising_from line (g ∷ gs) h o f = next line g gs (h 0 g (omega arith)) (f 0 g (omega arith)) (rising_from g.line gs (λ i d l. o 0 (suc i) d (omega arith) (omega arith)) (λ i j d a b. o (suc i) (suc j) d (omega arith) (omega arith)) (λ i d l. f (suc i) d (omega arith)))
 
-pub decodes_back : (gs : List Segment) → IsNonDecreasingBy line_of gs → All FitsSegment gs → decode (mappings_text gs) ≡ Ok gs
-decodes_back gs o f = start_back gs (rising_from 0 gs (λ i d l. omega arith) o f)
+pub running_back : (gs : List Segment) → IsNonDecreasingBy line_of gs → All FitsSegment gs → running_decode (running_text gs) ≡ Ok gs
+running_back gs o f = start_back gs (rising_from 0 gs (λ i d l. omega arith) o f)

@@ -6,3 +6,4 @@ pub mod Lines
 pub mod Ascii
 pub mod Back
 pub mod Lawful
+pub mod Same

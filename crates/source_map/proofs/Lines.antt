@@ -6,12 +6,12 @@ use Rattle.std.specs.List.Sorted.{IsNonDecreasingBy}
 use Rattle.std.proofs.lemmas.Grind.{common_steps}
 use Rattle.source_map.specs.declared.segment.Segment.{Segment}
 use Rattle.source_map.specs.declared.last.Last.{Last}
-use Rattle.source_map.specs.Written.{written, nothing_yet, after, separator, segment_text, mappings_text}
 use Rattle.source_map.specs.Lines.{line_of}
+use Rattle.source_map.specs.Running.{written, nothing_yet, after, separator, segment_text, running_text}
 
 -- what is written so far, and what is left to write
 pub record IsWrittenUpTo (segments : List Segment) (index : ℕ) (last : Last) (text : List ℕ) : Type 0 where
-  pub same : text ++ written last (drop index segments) ≡ mappings_text segments
+  pub same : text ++ written last (drop index segments) ≡ running_text segments
   pub sorted : (i : ℕ) (d : Segment) → index ≤ i → i < length segments → last.line ≤ line_of (get_or segments i d)
 
 pub written_none : (segments : List Segment) (last : Last) (text : List ℕ) → last ≡ nothing_yet → text ≡ [] → IsWrittenUpTo segments 0 last text
@@ -39,7 +39,7 @@ written_next segments index d last text between now o h l f n =
           let t : line_of (get_or segments index e) ≡ line_of (get_or segments index d) = ap line_of (same_line segments index e d l) in omega (arith, s, t);
     }
 
-pub written_all : (segments : List Segment) (index : ℕ) (last : Last) (text : List ℕ) → IsWrittenUpTo segments index last text → length segments ≤ index → text ≡ mappings_text segments
+pub written_all : (segments : List Segment) (index : ℕ) (last : Last) (text : List ℕ) → IsWrittenUpTo segments index last text → length segments ≤ index → text ≡ running_text segments
 unfolding written
 written_all segments index last text h l = sym (append-nil text) ∙ ap (λ x. text ++ written last x) (sym (past segments index l)) ∙ h.same
   where

@@ -3,12 +3,12 @@ use Rattle.std.proofs.Common.{◌≡◌, ℕ, zero, suc, ◌+◌, ◌-◌, ◌<�
 use Rattle.std.proofs.lemmas.Grind.{common_steps}
 use Rattle.source_map.specs.declared.segment.Segment.{Segment}
 use Rattle.source_map.specs.declared.last.Last.{Last}
-use Rattle.source_map.specs.Decode.{Slot, slots, with_first, is_separator, decoded, decoded_slot, decode}
+use Rattle.source_map.specs.Decode.{Slot, slots, with_first, is_separator}
 use Rattle.source_map.specs.Answers.{AnswersList, IsSlotEnd, ReadsSlot, behind, line_behind}
 use Rattle.css_text.specs.declared.stop.Stop.{Stop}
 use Rattle.css_text.specs.declared.stop.Stop.TheVariants.{Fault, Memory}
 use Rattle.source_map.specs.declared.segment.MapFault.{MapFault}
-use Rattle.source_map.specs.Written.{nothing_yet}
+use Rattle.source_map.specs.Running.{decoded, decoded_slot, running_decode, nothing_yet}
 
 -- the slots from that place on, if it isn't past the end
 abbrev pub slots_left : ℕ → ℕ → List ℕ → List Slot
@@ -90,14 +90,14 @@ left_none text line at h = rw (past at (length text) h) refl
 pub record IsReadUpTo (text : List ℕ) (line at : ℕ) (last : Last) (segments : List Segment) : Type 0 where
   pub lines : line ≤ at
   pub near : at ≤ length text + 1
-  pub same : decode text ≡ behind segments (decoded last (slots_left line at text))
+  pub same : running_decode text ≡ behind segments (decoded last (slots_left line at text))
 
 behind_none : (r : Result (List Segment) ℕ) → behind [] r ≡ r
 behind_none (Ok gs) = refl
 behind_none (Err at) = refl
 
 pub read_none : (text : List ℕ) (last : Last) (segments : List Segment) → last ≡ nothing_yet → segments ≡ [] → IsReadUpTo text 0 0 last segments
-unfolding decode
+unfolding running_decode
 read_none text last segments e f = rw (e, f) (record {
   lines = omega arith;
   near = omega arith;
@@ -105,13 +105,13 @@ read_none text last segments e f = rw (e, f) (record {
 })
 
 -- all is read
-pub read_all : (text : List ℕ) (line at : ℕ) (last : Last) (segments : List Segment) → IsReadUpTo text line at last segments → length text < at → decode text ≡ Ok segments
+pub read_all : (text : List ℕ) (line at : ℕ) (last : Last) (segments : List Segment) → IsReadUpTo text line at last segments → length text < at → running_decode text ≡ Ok segments
 unfolding decoded
 read_all text line at last segments h l = h.same ∙ ap (λ ss. behind segments (decoded last ss)) (left_none text line at l) ∙ ap (λ gs. Ok gs) (append-nil segments)
 
 -- the next slot, and what is left behind it
 pub next_slot : (text : List ℕ) (line at end : ℕ) (last : Last) (segments : List Segment) → IsReadUpTo text line at last segments → at ≤ length text → IsSlotEnd text at end
-    → decode text ≡ behind segments (decoded_slot last (record { line = line; at = at; text = take (end - at) (drop at text) }) (take (end - at) (drop at text)) (λ k. decoded k (slots_left (line_behind text line end) (end + 1) text)))
+    → running_decode text ≡ behind segments (decoded_slot last (record { line = line; at = at; text = take (end - at) (drop at text) }) (take (end - at) (drop at text)) (λ k. decoded k (slots_left (line_behind text line end) (end + 1) text)))
 unfolding decoded
 next_slot text line at end last segments h l i =
     let e : at + (end - at) ≡ end = omega (arith, i.after) in
@@ -136,11 +136,11 @@ read_next text line at end next last new segments now h l i n r = record {
 
 pub read_fault : (text : List ℕ) (line at end fault : ℕ) (last : Last) (segments : List Segment) → IsReadUpTo text line at last segments → at ≤ length text → IsSlotEnd text at end
     → ((rest : Last → Result (List Segment) ℕ) → decoded_slot last (record { line = line; at = at; text = take (end - at) (drop at text) }) (take (end - at) (drop at text)) rest ≡ Err fault)
-    → decode text ≡ Err fault
+    → running_decode text ≡ Err fault
 read_fault text line at end fault last segments h l i r =
     next_slot text line at end last segments h l i ∙ ap (behind segments) (r (λ k. decoded k (slots_left (line_behind text line end) (end + 1) text)))
 
 pub read_stop : (text : List ℕ) (line at end : ℕ) (last new : Last) (segments now : List Segment) (s : Stop MapFault) → IsReadUpTo text line at last segments → at ≤ length text → IsSlotEnd text at end
-    → ReadsSlot (record { line = line; at = at; text = take (end - at) (drop at text) }) last new segments now (Err s) → AnswersList (decode text) (Err s)
+    → ReadsSlot (record { line = line; at = at; text = take (end - at) (drop at text) }) last new segments now (Err s) → AnswersList (running_decode text) (Err s)
 read_stop text line at end last new segments now (Fault f) h l i r = read_fault text line at end f.at last segments h l i r
 read_stop text line at end last new segments now (Memory e) h l i r = tt

@@ -4,9 +4,10 @@ use Rattle.std.specs.declared.alloc.Global.{Global}
 use Rattle.css_text.specs.declared.stop.Stop.{Stop}
 use Rattle.css_text.specs.declared.stop.Stop.TheVariants.{Fault, Memory}
 use Rattle.source_map.specs.declared.segment.MapFault.{MapFault}
-use Rattle.source_map.specs.Decode.{is_separator, Slot, decoded_slot}
+use Rattle.source_map.specs.Decode.{is_separator, Slot}
 use Rattle.source_map.specs.declared.last.Last.{Last}
 use Rattle.source_map.specs.declared.segment.Segment.{Segment}
+use Rattle.source_map.specs.Running.{decoded_slot}
 
 -- a value that is the definition's, or its fault; of memory nothing is said
 abbrev pub Answers : {A : Type 0} → Result A ℕ → Result A (Stop MapFault) → Type 0

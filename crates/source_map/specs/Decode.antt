@@ -5,8 +5,7 @@ use Rattle.std.specs.Prelude.{ℕ, ◌+◌, ◌-◌, ◌/◌, ◌%◌, ◌^◌, 
 use Rattle.source_map.specs.declared.segment.Segment.{Segment}
 use Rattle.source_map.specs.declared.segment.Origin.{Origin}
 use Rattle.source_map.specs.Vlq.{numbers}
-use Rattle.source_map.specs.declared.last.Last.{Last}
-use Rattle.source_map.specs.Written.{nothing_yet, last_column, after}
+use Rattle.source_map.specs.Written.{column_before, origin_before}
 
 -- `,` and `;`
 abbrev pub is_separator : ℕ → Bool
@@ -51,24 +50,25 @@ full_segment line _ _ = None
 abbrev pub moved_origin : Origin → ℕ → ℕ → ℕ → Option Origin
 moved_origin o s i c = origin_of (moved o.source s) (moved o.line i) (moved o.column c)
 
--- the segment of one, four or five fields; the fifth, a name's number, is ignored
-abbrev pub segment_from : Last → ℕ → List ℕ → Option Segment
-segment_from l line (c ∷ []) = plain_segment line (moved (last_column l line) c)
-segment_from l line (c ∷ s ∷ i ∷ k ∷ []) = full_segment line (moved (last_column l line) c) (moved_origin l.origin s i k)
-segment_from l line (c ∷ s ∷ i ∷ k ∷ n ∷ []) = full_segment line (moved (last_column l line) c) (moved_origin l.origin s i k)
-segment_from l line _ = None
+-- the segment of one, four or five fields after these segments, of which the latest comes first; the fifth, a name's number, is
+-- ignored
+abbrev pub segment_from : List Segment → ℕ → List ℕ → Option Segment
+segment_from before line (c ∷ []) = plain_segment line (moved (column_before before line) c)
+segment_from before line (c ∷ s ∷ i ∷ k ∷ []) = full_segment line (moved (column_before before line) c) (moved_origin (origin_before before) s i k)
+segment_from before line (c ∷ s ∷ i ∷ k ∷ n ∷ []) = full_segment line (moved (column_before before line) c) (moved_origin (origin_before before) s i k)
+segment_from before line _ = None
 
 abbrev pub or_fault : ℕ → Option Segment → Result Segment ℕ
 or_fault at (Some g) = Ok g
 or_fault at None = Err at
 
 -- the segment of these numbers, or the fault in them, or at the end of their slot
-abbrev pub segment_by : Result (List ℕ) ℕ → Last → ℕ → ℕ → Result Segment ℕ
-segment_by (Ok ns) l line end = or_fault end (segment_from l line ns)
-segment_by (Err at) l line end = Err at
+abbrev pub segment_by : Result (List ℕ) ℕ → List Segment → ℕ → ℕ → Result Segment ℕ
+segment_by (Ok ns) before line end = or_fault end (segment_from before line ns)
+segment_by (Err at) before line end = Err at
 
-abbrev pub segment_in : Last → Slot → Result Segment ℕ
-segment_in l s = segment_by (numbers s.at 0 s.text) l s.line (s.at + length s.text)
+abbrev pub segment_in : List Segment → Slot → Result Segment ℕ
+segment_in before s = segment_by (numbers s.at 0 s.text) before s.line (s.at + length s.text)
 
 abbrev pub with_segment : Segment → Result (List Segment) ℕ → Result (List Segment) ℕ
 with_segment g (Ok gs) = Ok (g ∷ gs)
@@ -78,14 +78,14 @@ abbrev pub decoded_by : Result Segment ℕ → (Segment → Result (List Segment
 decoded_by (Ok g) rest = with_segment g (rest g)
 decoded_by (Err at) rest = Err at
 
-abbrev pub decoded_slot : Last → Slot → List ℕ → (Last → Result (List Segment) ℕ) → Result (List Segment) ℕ
-decoded_slot l s [] rest = rest l
-decoded_slot l s (c ∷ cs) rest = decoded_by (segment_in l s) (λ g. rest (after l g))
+-- a slot after these segments, and what follows it; where nothing stands between separators there is no segment
+abbrev pub decoded_slot : List Segment → Slot → List ℕ → (List Segment → Result (List Segment) ℕ) → Result (List Segment) ℕ
+decoded_slot before s [] rest = rest before
+decoded_slot before s (c ∷ cs) rest = decoded_by (segment_in before s) (λ g. rest (g ∷ before))
 
--- the segments of these slots; where nothing stands between separators there is none
-unfoldable pub decoded : Last → List Slot → Result (List Segment) ℕ
-decoded l [] = Ok []
-decoded l (s ∷ ss) = decoded_slot l s s.text (λ k. decoded k ss)
+unfoldable pub decoded : List Segment → List Slot → Result (List Segment) ℕ
+decoded before [] = Ok []
+decoded before (s ∷ ss) = decoded_slot before s s.text (λ k. decoded k ss)
 
 unfoldable pub decode : List ℕ → Result (List Segment) ℕ
-decode text = decoded nothing_yet (slots 0 0 text)
+decode text = decoded [] (slots 0 0 text)

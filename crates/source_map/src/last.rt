@@ -1,6 +1,6 @@
 // What the fields of a segment are relative to.
 ghost use Rattle.std.specs.Prelude.{◌≡◌};
-ghost use Rattle.source_map.specs.Written.{after, last_column, nothing_yet};
+ghost use Rattle.source_map.specs.Running.{after, last_column, nothing_yet};
 
 use crate::segment::{Origin, Segment};
 

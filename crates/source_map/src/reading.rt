@@ -1,7 +1,8 @@
 // Segments from a mappings text.
 ghost use Rattle.std.specs.Prelude.{◌≡◌, ◌+◌, ◌<◌, ◌≤◌, ◌^◌, ◌∷◌, [], length};
 ghost use Rattle.source_map.specs.Answers.{Answers, AnswersList, IsSlotEnd, ReadsSlot, line_behind};
-ghost use Rattle.source_map.specs.Decode.{decode, is_separator, moved, moved_origin, segment_from, segment_in};
+ghost use Rattle.source_map.specs.Decode.{decode, is_separator, moved, moved_origin};
+ghost use Rattle.source_map.specs.Running.{segment_from, segment_in};
 
 use crate::last::Last;
 use crate::segment::{MapFault, Origin, Segment};

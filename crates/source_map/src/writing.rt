@@ -3,7 +3,8 @@ ghost use Rattle.std.specs.Prelude.{◌≡◌, ◌++◌, ◌≤◌, ◌↔◌, I
 ghost use Rattle.std.specs.List.Sorted.{IsNonDecreasingBy};
 ghost use Rattle.std.specs.String.{string_bytes};
 ghost use Rattle.source_map.specs.Vlq.{number_text};
-ghost use Rattle.source_map.specs.Written.{difference, field_text, mappings_text, origin_text, segment_text, separator};
+ghost use Rattle.source_map.specs.Written.{difference, field_text, mappings_text, origin_text};
+ghost use Rattle.source_map.specs.Running.{segment_text, separator};
 ghost use Rattle.source_map.specs.Lines.{line_of};
 
 use crate::last::Last;
