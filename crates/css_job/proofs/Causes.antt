@@ -1,46 +1,32 @@
--- The causes of the faults that no walk has, and what is written and answered without one.
-use Rattle.std.proofs.Common.{◌≡◌, ℕ, ◌<◌, ◌≤◌, List, ◌++◌, length, Bool, true, false, Option, Some, None, refl, ap, subst, sym, ◌∙◌, inl, inr, cond, Result, Ok, Err, append-nil, true≢false}
-use Rattle.std.specs.declared.alloc.AllocError.{AllocError}
-use Rattle.std.specs.Prelude.{◌⊎◌, ◌==◌, IfSome, IfOk, OnErr, count_by}
+-- The causes of the faults that all commands have.
+use Rattle.std.proofs.Common.{◌≡◌, ℕ, ◌<◌, ◌≤◌, List, ◌++◌, length, true, false, Option, Some, None, refl, ap, subst, sym, ◌∙◌, inl, inr, append-nil, true≢false}
+use Rattle.std.specs.Prelude.{IfSome}
 use Rattle.std.specs.Str.{chars, IsValidUpTo}
 use Rattle.std.specs.Io.KnownBytes.{Appends}
 use Rattle.io_edge.specs.Causes.{Rose}
 use Rattle.css_parse.specs.Answer.{IsFaultOf}
-use Rattle.plugin_api.specs.Shelf.{PluginSeen}
-use Rattle.css_job.specs.Words.{Command, Options, Transform, Lint}
+use Rattle.command_words.specs.Words.{Command, Options, Transform, Lint}
 use Rattle.css_job.specs.Faults.{name_of, status_of}
 use Rattle.css_job.specs.Reading.{IsReadingOf, HasNoTree}
-use Rattle.css_job.specs.Warnings.{Warning, warnings}
-use Rattle.css_job.specs.Report.{is_error}
-use Rattle.css_job.specs.Plan.{limit, lint_status}
+use Rattle.css_job.specs.Plan.{limit}
 use Rattle.css_job.specs.Answer.{Object, input, write_to, Answer, is_input}
-use Rattle.css_job.specs.Outside.{Moment, Licensed, Took, Asked, names_of, answer_to, Ends, Heard, RanOut, Runs}
-use Rattle.css_job.specs.Causes.{IsTransform, UsageCause, ReadCause, WriteCause, IsTextInput, TooLargeCause, NotUtf8Cause, SyntaxCause, SyntaxErrorCause, StatusCause, Reports, WarnedCause, Unfailed, IsFailedSink}
+use Rattle.css_job.specs.Outside.{Snapshot, Licensed, Took}
+use Rattle.css_job.specs.Stated.{Asked, names_of, answer_to, Ends}
+use Rattle.css_job.specs.Causes.{UsageCause, ReadCause, WriteCause, IsTextInput, TooLargeCause, NotUtf8Cause, SyntaxCause, Unfailed, IsFailedSink}
 use Rattle.css_job.specs.declared.fault.Fault.{Fault}
 use Rattle.css_job.specs.declared.fault.Fault.TheVariants.{Usage, ReadFault, WriteFault, TooLarge, NotUtf8, Syntax}
 use Rattle.css_job.specs.declared.run.Ended.{Ended}
 use Rattle.css_job.specs.declared.target.Target.{Target}
 use Rattle.css_job.specs.declared.target.Target.TheVariants.{StdOut, StdErr}
-use Rattle.css_job.proofs.Readings.{one_reading, faulty_reading}
+use Rattle.css_job.proofs.Readings.{faulty_reading}
 use Rattle.css_job.proofs.Ways.{Cause, HasStatus, Unfaulty, way, usage_by, large_by, wrong_by, syntax_by}
-
-status_by : (b : Bool) → (◌≡◌ {A = ℕ} (cond b 0 2) 0) ⊎ (◌≡◌ {A = ℕ} (cond b 0 2) 2)
-status_by true = inl refl
-status_by false = inr refl
-
-status_known : (ws : List Warning) → (lint_status ws ≡ 0) ⊎ (lint_status ws ≡ 2)
-status_known ws = status_by (count_by is_error ws == 0)
-
--- a status that is 0 or 2
-pub same_status : (ws : List Warning) (n : ℕ) → n ≡ lint_status ws → (n ≡ 0) ⊎ (n ≡ 2)
-same_status ws n e = subst (λ x. (x ≡ 0) ⊎ (x ≡ 2)) (sym e) (status_known ws)
 
 -- the two commands are two
 pub not_lint : {A : Type 0} (command : Option Command) (o : Options) → command ≡ Some (Transform o) → command ≡ Some Lint → A
 not_lint command o t e = let h = sym t ∙ e in absurd (cc)
 
 -- where no read failed, the input isn't the object that did
-pub not_input : (failed : Option Object) (m n : Moment) → Licensed failed m n → ¬ Rose m.reads n.reads → is_input failed ≡ false
+pub not_input : (failed : Option Object) (m n : Snapshot) → Licensed failed m n → ¬ Rose m.reads n.reads → is_input failed ≡ false
 not_input None m n l r = refl
 not_input (Some input) m n l r = absurd (r l.0)
 not_input (Some (write_to t)) m n l r = refl
@@ -49,13 +35,13 @@ not_input (Some (write_to t)) m n l r = refl
 pub told : (bytes xs : List ℕ) (left : Option (List ℕ)) → left ≡ Some xs → IfSome left (λ ys. bytes ≡ ys) → bytes ≡ xs
 told bytes xs left e h = subst (λ l. IfSome l (λ ys. bytes ≡ ys)) e h
 
-not_read : (failed : Option Object) (a c : Moment) → is_input failed ≡ false → Licensed failed a c → c.reads ≡ a.reads
+not_read : (failed : Option Object) (a c : Snapshot) → is_input failed ≡ false → Licensed failed a c → c.reads ≡ a.reads
 not_read None a c e h = h.0
 not_read (Some input) a c e h = absurd (true≢false e)
 not_read (Some (write_to StdOut)) a c e h = h.0
 not_read (Some (write_to StdErr)) a c e h = h.0
 
-failed_sink : (t : Target) (name : List ℕ) (a c : Moment) → name ≡ name_of t → Licensed (Some (write_to t)) a c → IsFailedSink name a c
+failed_sink : (t : Target) (name : List ℕ) (a c : Snapshot) → name ≡ name_of t → Licensed (Some (write_to t)) a c → IsFailedSink name a c
 failed_sink StdOut name a c e h = inl (e, h.1)
 failed_sink StdErr name a c e h = inr (e, h.2)
 
@@ -66,7 +52,7 @@ took_whole text x y m n t b = elim t.whole [
   | inr r ↦ absurd (b r)
 ]
 
-module _ (asked : Asked) (a c : Moment) (e : Ended) (h : Ends asked a c e) where
+module _ (asked : Asked) (a c : Snapshot) (e : Ended) (h : Ends asked a c e) where
   abbrev pub its_answer : Answer
   its_answer = answer_to asked h.bytes h.reading h.reached h.failed
 
@@ -74,7 +60,7 @@ module _ (asked : Asked) (a c : Moment) (e : Ended) (h : Ends asked a c e) where
   pub cause_of : (f : Option Fault) → e.fault ≡ f → Cause asked.command h.bytes h.reading h.reached h.failed its_answer f
   cause_of f g = subst (Cause asked.command h.bytes h.reading h.reached h.failed its_answer) (sym h.fault ∙ g) (way asked.command (names_of asked.shelf) h.bytes h.reading h.reached h.failed).cause
 
-  status_of_fault : (f : Fault) → e.fault ≡ Some f → e.status ≡ status_of f
+  pub status_of_fault : (f : Fault) → e.fault ≡ Some f → e.status ≡ status_of f
   status_of_fault f g = h.status ∙ subst (λ o. HasStatus o its_answer.status) (sym h.fault ∙ g) (way asked.command (names_of asked.shelf) h.bytes h.reading h.reached h.failed).status
 
   pub usage : UsageCause asked.command e
@@ -127,48 +113,5 @@ module _ (asked : Asked) (a c : Moment) (e : Ended) (h : Ends asked a c e) where
   pub unfaulty : e.fault ≡ None → Unfaulty asked.command h.bytes h.reading h.reached h.failed its_answer
   unfaulty g = cause_of None g
 
-  pub lint_reports : asked.command ≡ Some Lint → e.fault ≡ None → Reports (warnings (chars h.bytes) h.reading) a c e
-  lint_reports t none =
-      elim (unfaulty none).by [
-        | inl p ↦ not_lint asked.command p.turned.options p.turned.is t
-        | inr l ↦ record {
-          status = h.status ∙ l.status;
-          report = λ b. subst (Appends a.err c.err) l.err (took_whole _ a.err c.err a.errs c.errs h.err b);
-        }
-      ]
-
-  pub warned : WarnedCause asked.command a c e
-  warned bytes t k is r none =
-      let s = told h.bytes bytes a.left is h.fed.told in
-      let same : h.reading ≡ Ok t = one_reading (chars bytes) h.reading (Ok t) (subst (λ b. IsReadingOf (chars b) h.reading) s h.is_reading) r in
-      let l = lint_reports k none in
-      subst (λ b. Reports (warnings (chars b) (Ok t)) a c e) s (subst (λ x. Reports (warnings (chars h.bytes) x) a c e) same l)
-
-  pub css_syntax_error : SyntaxErrorCause asked.command a c e
-  css_syntax_error bytes k is nothing none =
-      let s = told h.bytes bytes a.left is h.fed.told in
-      let d = faulty_reading (chars bytes) h.reading (subst (λ b. IsReadingOf (chars b) h.reading) s h.is_reading) nothing in
-      let l = subst (λ x. Reports (warnings (chars h.bytes) x) a c e) d.1 (lint_reports k none) in
-      (l.status, (d.0, d.2, l))
-
-  printed_status : IsTransform asked.command → e.fault ≡ None → e.status ≡ 0
-  printed_status t none = elim (unfaulty none).by [ inl p ↦ h.status ∙ p.status | inr l ↦ not_lint asked.command t.0 t.1 l.is ]
-
-  pub status : StatusCause asked.command e
-  status = record {
-    faulty = λ d g. status_of_fault d g;
-    transformed = λ t g. printed_status t g;
-    linted = λ t g. same_status (warnings (chars h.bytes) h.reading) e.status (lint_reports t g).status;
-  }
-
   pub unfailed : Unfailed a c e
   unfailed g = subst (λ o. Licensed o a c) (unfaulty g).none h.licensed
-
--- what holds of each run that ended
-pub of_ended : (asked : Asked) (after : List PluginSeen) (a c : Moment) (P : Ended → Type 0) (r : Result Ended AllocError) → ((e : Ended) → Ends asked a c e → Heard asked.shelf after e.log.items → P e) → Runs asked after a c r → IfOk r P
-of_ended asked after a c P (Ok e) f h = f e h.0 h.1
-of_ended asked after a c P (Err x) f h = tt
-
-pub of_spent : (asked : Asked) (after : List PluginSeen) (a c : Moment) (r : Result Ended AllocError) → Runs asked after a c r → OnErr r (RanOut asked after a c)
-of_spent asked after a c (Ok e) h = tt
-of_spent asked after a c (Err x) h = h

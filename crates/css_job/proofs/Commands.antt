@@ -30,19 +30,23 @@ use Rattle.plugin_api.specs.declared.visitor.Duty.{Duty}
 use Rattle.plugin_api.specs.declared.plugin.Plugin.{Plugin}
 use Rattle.plugin_api.specs.Shelf.{PluginSeen, plugin_seen, shelf_seen}
 use Rattle.visitor_walk.specs.declared.walk_end.WalkEnd.TheVariants as W
-use Rattle.css_job.specs.Words.{Command, Transform, Lint}
+use Rattle.command_words.specs.Words.{Command, Transform, Lint}
 use Rattle.css_job.specs.Faults.{input_name, wrong_at}
 use Rattle.css_job.specs.Reading.{Reading}
 use Rattle.css_job.specs.Warnings.{Warning}
 use Rattle.css_job.specs.Report.{report}
-use Rattle.css_job.specs.CommandSeen.{shelf_names, command_seen}
-use Rattle.css_job.specs.Plan.{Plan, Reached, Turn, stopped, limit, lint_status, reported, text_plan, input_plan, turn_of}
-use Rattle.css_job.specs.Outside.{names_of}
+use Rattle.css_job.specs.ShelfSeen.{shelf_names}
+use Rattle.command_words.specs.CommandSeen.{command_seen}
+use Rattle.css_job.specs.Plan.{Plan, stopped, limit}
+use Rattle.css_job.specs.TransformPlan.{Reached, Turn, turn_of}
+use Rattle.css_job.specs.LintPlan.{lint_status, reported}
+use Rattle.css_job.specs.CommandPlan.{text_plan, input_plan}
+use Rattle.css_job.specs.Stated.{names_of}
 use Rattle.css_job.specs.Stages.{Stage, stage_seen, writing, Kept, CutOff, command_turn, IsTextPlan, Planned, PlansInput}
 use Rattle.css_job.specs.declared.fault.Fault.TheVariants as F
 use Rattle.css_job.specs.declared.prepared.Prepared as S
 use Rattle.css_job.specs.declared.target.Target.TheVariants.{StdErr}
-use Rattle.css_job.specs.declared.words.Command as C
+use Rattle.command_words.specs.declared.commands.Command as C
 use Rattle.css_job.proofs.Names.{input_chars}
 use Rattle.css_job.proofs.Readings.{some_reading}
 use Rattle.css_job.proofs.Unheard.{unheard}

@@ -7,14 +7,17 @@ use Rattle.css_tree.specs.declared.fault.SyntaxFault.{SyntaxFault}
 use Rattle.css_tree.specs.Tree.{Tree}
 use Rattle.css_tree.specs.Reads.{Reads}
 use Rattle.plugin_api.specs.Shelf.{HookSeen, PluginSeen}
-use Rattle.css_job.specs.Words.{Command}
+use Rattle.command_words.specs.Words.{Command}
 use Rattle.css_job.specs.Reading.{Reading, IsReadingOf}
 use Rattle.css_job.specs.Warnings.{warnings}
 use Rattle.css_job.specs.Plan.{limit}
 use Rattle.css_job.specs.Answer.{write_to}
-use Rattle.css_job.specs.Outside as O
-use Rattle.css_job.specs.Outside.{Moment, Licensed, Asked, Ends}
-use Rattle.css_job.specs.Causes.{IsTaken, IsTransform, Gets, IsTextInput, Grew, HasSaid, IsCalm, Completes}
+use Rattle.css_job.specs.Stated as O
+use Rattle.css_job.specs.Outside.{Snapshot, Licensed}
+use Rattle.css_job.specs.Stated.{Asked, Ends}
+use Rattle.css_job.specs.Causes.{IsTaken, IsTransform, Gets, IsTextInput}
+use Rattle.css_job.specs.TransformPromises.{Grew, HasSaid}
+use Rattle.css_job.specs.Promises.{IsCalm, Completes}
 use Rattle.css_job.specs.declared.fault.Fault.{Fault}
 use Rattle.css_job.specs.declared.fault.Fault.TheVariants.{Usage, ReadFault, WriteFault, TooLarge, NotUtf8, Syntax, PluginFailed, BudgetSpent, EditBudgetSpent}
 use Rattle.css_job.specs.declared.run.Ended.{Ended}
@@ -22,10 +25,11 @@ use Rattle.css_job.specs.declared.target.Target.{Target}
 use Rattle.css_job.specs.declared.target.Target.TheVariants.{StdOut, StdErr}
 use Rattle.css_job.proofs.Readings.{one_reading}
 use Rattle.css_job.proofs.Commands.{never_both}
-use Rattle.css_job.proofs.Causes.{told, same_status, cause_of, unfaulty}
+use Rattle.css_job.proofs.Causes.{told, cause_of, unfaulty}
+use Rattle.css_job.proofs.LintCauses.{same_status}
 use Rattle.css_job.proofs.WalkCauses.{plugin_failed, budget_spent, edit_budget_spent}
 
-some_rose : {A : Type 0} (t : Target) (m n : Moment) → Licensed (Some (write_to t)) m n → ¬ Rose m.outs n.outs → ¬ Rose m.errs n.errs → A
+some_rose : {A : Type 0} (t : Target) (m n : Snapshot) → Licensed (Some (write_to t)) m n → ¬ Rose m.outs n.outs → ¬ Rose m.errs n.errs → A
 some_rose StdOut m n l o e = absurd (o l.1)
 some_rose StdErr m n l o e = absurd (e l.2)
 
@@ -47,7 +51,7 @@ has_said : (text : List ℕ) (old new : Option HookSeen) → Grew text old new �
 has_said text None new g = g
 has_said text (Some old) new g = (g.0, g.1, λ e. longer old.said text (sym g.2 ∙ e))
 
-module _ (asked : Asked) (a c : Moment) (e : Ended) (h : Ends asked a c e) (after : List PluginSeen) (heard : O.Heard asked.shelf after e.log.items) where
+module _ (asked : Asked) (a c : Snapshot) (e : Ended) (h : Ends asked a c e) (after : List PluginSeen) (heard : O.Heard asked.shelf after e.log.items) where
   -- no fault has its cause here
   calm_by : (bytes : List ℕ) → Gets asked.command a bytes → IsTextInput bytes → (IsTransform asked.command → (t : Tree) × Reads (chars bytes) t) → IsCalm asked after (chars bytes) e → ¬ Rose a.reads c.reads → ¬ Rose a.outs c.outs → ¬ Rose a.errs c.errs → (f : Fault) → e.fault ≡ Some f → ⊥
   calm_by bytes g x tree calm p q r Usage i = not_taken asked.command g.taken (cause_of asked a c e h (Some Usage) i)

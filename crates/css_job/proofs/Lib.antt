@@ -1,4 +1,3 @@
-mod SameWord
 mod Pieces
 mod Carry
 mod Names
@@ -25,6 +24,7 @@ mod Whole
 mod Wrong
 mod Ways
 mod Causes
+mod LintCauses
 mod PickedCalls
 mod Quiet
 mod Turns
@@ -32,13 +32,6 @@ mod WalkCauses
 mod Complete
 mod SameShelves
 mod OneOutcome
+mod Promised
 mod OneOutcomeShown
-mod ShelfNames
-mod OptionNames
-mod Cuts
-mod Digits
-mod Givens
-mod Picks
-mod FreshPlace
-mod CommandNames
 mod Calls

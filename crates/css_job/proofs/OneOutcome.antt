@@ -17,12 +17,15 @@ use Rattle.visitor_machine.proofs.Runs.{some_same}
 use Rattle.visitor_walk.specs.declared.walk_end.WalkEnd.{WalkEnd}
 use Rattle.visitor_walk.specs.OneLog.{SameDuties, HasDuty, EndedWalk}
 use Rattle.visitor_walk.proofs.OneLog.{one_log}
-use Rattle.css_job.specs.Words.{Options, Command, Transform, Lint}
+use Rattle.command_words.specs.Words.{Options, Command, Transform, Lint}
 use Rattle.css_job.specs.Reading.{Reading, IsReadingOf}
-use Rattle.css_job.specs.Plan.{Turn, Reached, limit, text_plan, plan_of, turn_of, kept_log}
+use Rattle.css_job.specs.TransformPlan.{Turn, Reached, turn_of, kept_log}
+use Rattle.css_job.specs.Plan.{limit}
+use Rattle.css_job.specs.CommandPlan.{text_plan, plan_of}
 use Rattle.css_job.specs.Walked.{Walked, IsWalked, hooks_of, calls_of, edits_of}
 use Rattle.css_job.specs.Answer.{Object, input, write_to, Answer, answer, finish, is_input, failed_target}
-use Rattle.css_job.specs.Outside.{Moment, Licensed, Asked, names_of, answer_to, turn_in, Ends}
+use Rattle.css_job.specs.Outside.{Snapshot, Licensed}
+use Rattle.css_job.specs.Stated.{Asked, names_of, answer_to, turn_in, Ends}
 use Rattle.css_job.specs.OneOutcome.{SameShelf, AllOwe, PickedOwe, NoneRose, EndedRun, SameJob, TookOne, SameOutcome, OneOutcome}
 use Rattle.css_job.specs.declared.run.Ended.{Ended}
 use Rattle.css_job.specs.declared.target.Target.TheVariants.{StdOut, StdErr}
@@ -118,7 +121,7 @@ same_answer command names bytes reading r q failed h =
     ]
 
 -- where no count rose, no object failed
-none_failed : (failed : Option Object) (old new : Moment) → Licensed failed old new → NoneRose old new → failed ≡ None
+none_failed : (failed : Option Object) (old new : Snapshot) → Licensed failed old new → NoneRose old new → failed ≡ None
 none_failed None old new l n = refl
 none_failed (Some input) old new l n = absurd (n.reads l.0)
 none_failed (Some (write_to StdOut)) old new l n = absurd (n.outs l.1)
@@ -127,7 +130,7 @@ none_failed (Some (write_to StdErr)) old new l n = absurd (n.errs l.2)
 took_one : (text other : List ℕ) (old new before after : Option (List ℕ)) → text ≡ other → Appends old new text → Appends before after other → TookOne old new before after
 took_one text other old new before after e h k = record { text = text; one = h; other = subst (Appends before after) (sym e) k }
 
-module _ (job : Asked) (old new : Moment) (ended : Ended) (h : Ends job old new ended) (own : PickedOwe job) (run : EndedRun) (same : SameJob job old run) where
+module _ (job : Asked) (old new : Snapshot) (ended : Ended) (h : Ends job old new ended) (own : PickedOwe job) (run : EndedRun) (same : SameJob job old run) where
   abbrev its : Ends run.job run.old run.new run.ended
   its = run.ends
 

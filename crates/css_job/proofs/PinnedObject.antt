@@ -3,14 +3,14 @@ use Rattle.std.proofs.Common.{◌≡◌, ℕ, ◌-◌, ◌^◌, ◌<◌, Some, N
 use Rattle.std.specs.Prelude.{Option}
 use Rattle.io_edge.specs.Causes.{Rose}
 use Rattle.css_job.specs.Answer.{Object, input, write_to}
-use Rattle.css_job.specs.Outside.{Moment, Licensed}
+use Rattle.css_job.specs.Outside.{Snapshot, Licensed}
 use Rattle.css_job.specs.Pinned.{BelowLast}
 use Rattle.css_job.specs.declared.target.Target.TheVariants.{StdOut, StdErr}
 
 rose_up : (a b : ℕ) → a < 2 ^ 64 - 1 → Rose a b → a < b
 rose_up a b l h = omega (arith, h.rose)
 
-pub pinned : (f g : Option Object) (a c : Moment) → BelowLast a → Licensed f a c → Licensed g a c → f ≡ g
+pub pinned : (f g : Option Object) (a c : Snapshot) → BelowLast a → Licensed f a c → Licensed g a c → f ≡ g
 pinned None None a c k h i = refl
 pinned None (Some input) a c k h i = let r = rose_up a.reads c.reads k.reads i.0 in absurd (omega (arith, r, h.0))
 pinned None (Some (write_to StdOut)) a c k h i = let r = rose_up a.outs c.outs k.outs i.1 in absurd (omega (arith, r, h.1))

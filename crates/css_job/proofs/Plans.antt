@@ -5,18 +5,21 @@ use Rattle.css_tree.specs.declared.fault.SyntaxFault.{SyntaxFault}
 use Rattle.css_job.specs.Faults.{input_name, status_of}
 use Rattle.css_job.specs.Warnings.{syntax_warning}
 use Rattle.css_job.specs.Shown.{warning_seen}
-use Rattle.css_job.specs.CommandSeen.{command_seen}
-use Rattle.css_job.specs.Plan.{Piece, Plan, Reached, stopped, reported, text_plan}
+use Rattle.command_words.specs.CommandSeen.{command_seen}
+use Rattle.css_job.specs.Plan.{Piece, Plan, stopped}
+use Rattle.css_job.specs.TransformPlan.{Reached}
+use Rattle.css_job.specs.LintPlan.{reported}
+use Rattle.css_job.specs.CommandPlan.{text_plan}
 use Rattle.css_job.specs.Stages.{piece_of, stage_seen, writing}
 use Rattle.css_job.specs.declared.fault.Fault.{Fault}
 use Rattle.css_job.specs.declared.fault.Fault.TheVariants.{Syntax}
 use Rattle.css_job.specs.declared.plan.Write.{Write}
 use Rattle.css_job.specs.declared.prepared.Prepared as S
 use Rattle.css_job.specs.declared.target.Target.{Target}
-use Rattle.css_job.specs.declared.warning.Warning as W
-use Rattle.css_job.specs.declared.words.Command as C
-use Rattle.css_job.specs.declared.words.Command.TheVariants as CV
-use Rattle.css_job.specs.declared.words.Options as O
+use Rattle.css_job.specs.declared.lint.warning.Warning as W
+use Rattle.command_words.specs.declared.commands.Command as C
+use Rattle.command_words.specs.declared.commands.Command.TheVariants as CV
+use Rattle.command_words.specs.declared.commands.Options as O
 use Rattle.css_job.proofs.Commands.{Stages, unwalked}
 
 abbrev plan_with : Option Fault → List ℕ → ℕ → List Piece → Plan

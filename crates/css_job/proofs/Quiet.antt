@@ -35,7 +35,7 @@ use Rattle.visitor_walk.specs.Walk.{IsNextCall}
 use Rattle.visitor_walk.proofs.Calling.{back_free, back_edits}
 use Rattle.visitor_walk.proofs.Chunks.{calls-append}
 use Rattle.visitor_walk.proofs.Picking.{IsThere, picked_there}
-use Rattle.css_job.specs.Causes.{AreQuiet}
+use Rattle.css_job.specs.TransformPromises.{AreQuiet}
 use Rattle.css_job.proofs.PickedCalls.{each_append, each_from_all, Stays, step_stays, call_place, start_stays}
 
 -- the edits that stand first, and what stands behind them

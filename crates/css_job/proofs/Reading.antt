@@ -13,11 +13,14 @@ use Rattle.io_edge.specs.Whole.{ReadsAll}
 use Rattle.io_edge.specs.declared.edge.ReadStop.{ReadStop}
 use Rattle.io_edge.specs.declared.edge.ReadStop.TheVariants as RS
 use Rattle.plugin_api.specs.Shelf.{PluginSeen}
-use Rattle.css_job.specs.Words.{Command}
+use Rattle.command_words.specs.Words.{Command}
 use Rattle.css_job.specs.Faults.{input_name}
 use Rattle.css_job.specs.Reading.{Reading, IsReadingOf}
-use Rattle.css_job.specs.Plan.{Plan, Reached, plan_of, turn_of, limit, stopped}
-use Rattle.css_job.specs.Outside.{Asked, Fed, names_of}
+use Rattle.css_job.specs.Plan.{Plan, limit, stopped}
+use Rattle.css_job.specs.TransformPlan.{Reached, turn_of}
+use Rattle.css_job.specs.CommandPlan.{plan_of}
+use Rattle.css_job.specs.Stated.{Asked, names_of}
+use Rattle.css_job.specs.Outside.{Fed}
 use Rattle.css_job.specs.Stages.{stage_seen, Stage, Kept, CutOff, IsInputPlan, PlansInput, Prepares, IsPrepared, Unprepared}
 use Rattle.css_job.specs.declared.prepared.Prepared as S
 use Rattle.css_job.specs.declared.fault.Fault.TheVariants.{Usage, ReadFault, TooLarge}

@@ -11,8 +11,8 @@ use Rattle.visitor_machine.specs.Hooks.{PickedHook}
 use Rattle.visitor_walk.specs.Picked.{hooks_from, picked_hooks}
 use Rattle.visitor_walk.specs.OneLog.{duty_at, SameDuties, HasDuty}
 use Rattle.visitor_walk.proofs.Picking.{picked_there}
-use Rattle.css_job.specs.Words.{command_of}
-use Rattle.css_job.specs.Outside.{names_of}
+use Rattle.command_words.specs.Words.{command_of}
+use Rattle.css_job.specs.Stated.{names_of}
 use Rattle.css_job.specs.OneOutcome.{untold, untold_plugin, SameShelf, AllOwe, OneCommand}
 
 names_untold : (shelf : List PluginSeen) → names_of (map untold_plugin shelf) ≡ names_of shelf

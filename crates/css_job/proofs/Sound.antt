@@ -7,10 +7,12 @@ use Rattle.node_rows.specs.Nodes.{Node}
 use Rattle.node_store.specs.declared.item.Item.{Item}
 use Rattle.visitor_walk.specs.declared.walk_end.WalkEnd.{WalkEnd}
 use Rattle.visitor_walk.specs.declared.walk_end.WalkEnd.TheVariants as W
-use Rattle.css_job.specs.Words.{Command, Transform, Lint}
+use Rattle.command_words.specs.Words.{Command, Transform, Lint}
 use Rattle.css_job.specs.Faults.{input_name}
 use Rattle.css_job.specs.Reading.{Reading}
-use Rattle.css_job.specs.Plan.{Piece, Plan, Reached, plan_of, text_plan, stopped, limit, to_err, to_out, traced, printed, fault_of, walk_status}
+use Rattle.css_job.specs.Plan.{Piece, Plan, stopped, limit, to_err, to_out}
+use Rattle.css_job.specs.TransformPlan.{Reached, traced, printed, fault_of, walk_status}
+use Rattle.css_job.specs.CommandPlan.{plan_of, text_plan}
 use Rattle.css_job.specs.Answer.{begun, same_target}
 use Rattle.css_job.specs.Stages.{IsSound}
 use Rattle.css_job.specs.declared.fault.Fault.{Fault}

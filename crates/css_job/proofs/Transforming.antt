@@ -13,10 +13,11 @@ use Rattle.visitor_walk.specs.declared.walk_end.WalkEnd.TheVariants.{Done}
 use Rattle.visitor_walk.specs.Heard.{Hears}
 use Rattle.visitor_walk.specs.Picked.{picked_hooks}
 use Rattle.visitor_walk.specs.Walk.{Walks, IsSettledAfter}
-use Rattle.css_job.specs.Words.{Options, Transform}
-use Rattle.css_job.specs.Plan.{Reached, budget_for, walk_plan, text_plan}
+use Rattle.command_words.specs.Words.{Options, Transform}
+use Rattle.css_job.specs.TransformPlan.{Reached, budget_for, walk_plan}
+use Rattle.css_job.specs.CommandPlan.{text_plan}
 use Rattle.css_job.specs.Walked.{Run, Walked}
-use Rattle.css_job.specs.Outside.{Heard, IsCutLog, names_of}
+use Rattle.css_job.specs.Stated.{Heard, IsCutLog, names_of}
 use Rattle.css_job.specs.Stages.{plan_seen, CutOff, Planned}
 use Rattle.css_job.specs.declared.plan.Plan as P
 use Rattle.css_job.proofs.Unheard.{hears_whole, hears_cut, hears_less}

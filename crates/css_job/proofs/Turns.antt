@@ -16,13 +16,15 @@ use Rattle.visitor_walk.specs.declared.walk_end.WalkEnd.{WalkEnd}
 use Rattle.visitor_walk.specs.Picked.{picked_hooks}
 use Rattle.visitor_walk.specs.Walk as walk
 use Rattle.visitor_walk.proofs.LastItems.{ends_once}
-use Rattle.css_job.specs.Words.{Options, Command, Transform, Lint}
+use Rattle.command_words.specs.Words.{Options, Command, Transform, Lint}
 use Rattle.css_job.specs.Reading.{Reading, IsReadingOf}
-use Rattle.css_job.specs.Plan.{Turn, limit, budget_for, text_turn, turn_of, kept_log}
+use Rattle.css_job.specs.TransformPlan.{Turn, budget_for, text_turn, turn_of, kept_log}
+use Rattle.css_job.specs.Plan.{limit}
 use Rattle.css_job.specs.Walked.{Walked, IsWalked, IsKept}
 use Rattle.css_job.specs.Answer.{Object, input, write_to, is_input}
-use Rattle.css_job.specs.Outside.{Moment, Asked, Ends}
-use Rattle.css_job.specs.Causes.{IsLogOf, HasWalked}
+use Rattle.css_job.specs.Outside.{Snapshot}
+use Rattle.css_job.specs.Stated.{Asked, Ends}
+use Rattle.css_job.specs.TransformPromises.{IsLogOf, HasWalked}
 use Rattle.css_job.specs.declared.run.Ended.{Ended}
 use Rattle.css_job.proofs.Commands.{not_large}
 use Rattle.css_job.proofs.Ways.{Turned, text_from}
@@ -63,7 +65,7 @@ Follows hs most f log s = follow hs most (start hs f.nodes) log ≡ Some s
 same_state : (hs : List PickedHook) (most : ℕ) (f : Forest) (log : List Item) (s t : State) → Follows hs most f log s → Follows hs most f log t → s ≡ t
 same_state hs most f log s t a b = let e : Some s ≡ Some t = sym a ∙ b in cc
 
-module _ (asked : Asked) (a c : Moment) (e : Ended) (h : Ends asked a c e) where
+module _ (asked : Asked) (a c : Snapshot) (e : Ended) (h : Ends asked a c e) where
   -- there is no walk, or a text was read for `transform`
   pub has_turn : (turn_of asked.command h.bytes h.reading (is_input h.failed) ≡ None) ⊎ Turned asked.command h.bytes h.reading h.failed
   has_turn = turned_or asked.command h.bytes h.reading h.failed

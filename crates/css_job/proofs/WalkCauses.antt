@@ -31,11 +31,12 @@ use Rattle.visitor_walk.specs.Walk as walk
 use Rattle.visitor_walk.specs.Walk.{EndsCalled, IsNextCall}
 use Rattle.visitor_walk.proofs.Picking.{IsThere, picked_there}
 use Rattle.visitor_walk.proofs.Saying.{said_once, failed_said}
-use Rattle.css_job.specs.Words.{Options, Transform, most_budget}
-use Rattle.css_job.specs.Plan.{budget_for, fault_of}
-use Rattle.css_job.specs.Outside as O
-use Rattle.css_job.specs.Outside.{Moment, Asked, names_of, Ends}
-use Rattle.css_job.specs.Causes.{Grew, HasSaid, PluginFailedCause, IsLogOf, AsksBeyond, EditsBeyond, BudgetCause, EditBudgetCause, AreQuiet, UnchangedCause, KeepsUntouched, UntouchedCause, SettledCause, NeverSpent}
+use Rattle.command_words.specs.Words.{Options, Transform, most_budget}
+use Rattle.css_job.specs.TransformPlan.{budget_for, fault_of}
+use Rattle.css_job.specs.Stated as O
+use Rattle.css_job.specs.Outside.{Snapshot}
+use Rattle.css_job.specs.Stated.{Asked, names_of, Ends}
+use Rattle.css_job.specs.TransformPromises.{Grew, HasSaid, PluginFailedCause, IsLogOf, AsksBeyond, EditsBeyond, BudgetCause, EditBudgetCause, AreQuiet, UnchangedCause, KeepsUntouched, UntouchedCause, SettledCause, NeverSpent}
 use Rattle.css_job.specs.declared.fault.Fault.{Fault}
 use Rattle.css_job.specs.declared.fault.Fault.TheVariants.{PluginFailed, BudgetSpent, EditBudgetSpent}
 use Rattle.css_job.specs.declared.run.Ended.{Ended}
@@ -83,7 +84,7 @@ budget_beyond k n calls a b e l =
     never_below : (x y : ℕ) → x < y → y ≤ x → ⊥
     never_below x y a b = omega arith
 
-module _ (asked : Asked) (a c : Moment) (e : Ended) (h : Ends asked a c e) where
+module _ (asked : Asked) (a c : Snapshot) (e : Ended) (h : Ends asked a c e) where
   -- a fault of the walk's end is the run's
   faulty_end : (t : Turned asked.command h.bytes h.reading h.failed) (end : WalkEnd) (f : Fault) → h.reached.end ≡ end → fault_of end (edit_budget asked a c e h t) ≡ Some f → e.fault ≡ Some f
   faulty_end t end f x y = h.fault ∙ walk_by asked.command (names_of asked.shelf) h.bytes h.reading h.reached h.failed t f (ap (λ z. fault_of z (edit_budget asked a c e h t)) x ∙ y)

@@ -13,13 +13,16 @@ use Rattle.node_rows.specs.NumberTrees.{tree_at}
 use Rattle.node_store.specs.declared.item.Item.{Item}
 use Rattle.visitor_walk.specs.declared.walk_end.WalkEnd.{WalkEnd}
 use Rattle.visitor_walk.specs.declared.walk_end.WalkEnd.TheVariants as W
-use Rattle.css_job.specs.Words.{Options, Command, Transform, Lint}
+use Rattle.command_words.specs.Words.{Options, Command, Transform, Lint}
 use Rattle.css_job.specs.Faults.{input_name, name_of, status_of}
 use Rattle.css_job.specs.Trace.{caller}
 use Rattle.css_job.specs.Reading.{Reading}
 use Rattle.css_job.specs.Warnings.{warnings}
 use Rattle.css_job.specs.Report.{report}
-use Rattle.css_job.specs.Plan.{Plan, stopped, limit, budget_for, Reached, fault_of, walk_status, traced, printed, to_out, lint_status, text_plan, plan_of}
+use Rattle.css_job.specs.Plan.{Plan, stopped, limit, to_out}
+use Rattle.css_job.specs.TransformPlan.{budget_for, Reached, fault_of, walk_status, traced, printed}
+use Rattle.css_job.specs.LintPlan.{lint_status}
+use Rattle.css_job.specs.CommandPlan.{text_plan, plan_of}
 use Rattle.css_job.specs.Answer.{Object, input, write_to, Answer, answer, is_input, finish, finish_with, failed_target, bytes_for}
 use Rattle.css_job.specs.Causes.{IsTaken, IsTransform, IsTextInput}
 use Rattle.css_job.specs.declared.fault.Fault.{Fault}

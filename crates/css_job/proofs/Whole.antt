@@ -8,12 +8,15 @@ use Rattle.io_edge.specs.Causes.{Rose}
 use Rattle.node_store.specs.declared.item.Item.{Item}
 use Rattle.node_store.specs.Forest.{Forest}
 use Rattle.plugin_api.specs.Shelf.{PluginSeen}
-use Rattle.css_job.specs.Words.{Command}
+use Rattle.command_words.specs.Words.{Command}
 use Rattle.css_job.specs.Faults.{input_name}
 use Rattle.css_job.specs.Reading.{Reading, IsReadingOf}
-use Rattle.css_job.specs.Plan.{Plan, Reached, plan_of, turn_of, stopped}
+use Rattle.css_job.specs.Plan.{Plan, stopped}
+use Rattle.css_job.specs.TransformPlan.{Reached, turn_of}
+use Rattle.css_job.specs.CommandPlan.{plan_of}
 use Rattle.css_job.specs.Answer.{Object, input, write_to, answer, finish, is_input}
-use Rattle.css_job.specs.Outside.{Asked, Moment, Licensed, Took, TookFront, Fed, IsRead, Heard, Ends, RanOut, RanOutWriting, Runs, answer_to, names_of}
+use Rattle.css_job.specs.Stated.{Asked, Heard, Ends, RanOut, RanOutWriting, Runs, answer_to, names_of}
+use Rattle.css_job.specs.Outside.{Snapshot, Licensed, Took, TookFront, Fed, IsRead}
 use Rattle.css_job.specs.Stages.{Stage, plan_seen, stage_seen, Kept, Sinks, IsPrepared, Carried, Stranded, Blames}
 use Rattle.css_job.specs.declared.carry_out.Settled.{Settled}
 use Rattle.css_job.specs.declared.fault.Fault.TheVariants.{ReadFault}
@@ -22,7 +25,7 @@ use Rattle.css_job.specs.declared.run.Ended.{Ended}
 use Rattle.css_job.specs.declared.target.Target.{Target}
 use Rattle.css_job.specs.declared.target.Target.TheVariants.{StdOut, StdErr}
 
-abbrev pub sinks_of : Moment → Sinks
+abbrev pub sinks_of : Snapshot → Sinks
 sinks_of m = record { out = m.out; err = m.err; outs = m.outs; errs = m.errs }
 
 -- the object that failed first, where no read did
@@ -34,12 +37,12 @@ object (Some t) = Some (write_to t)
 abbrev ended_with : Settled → Vec Item Global → Option Forest → Ended
 ended_with e log work = record { status = e.status; fault = e.fault; log = log; work = work }
 
-licensed_read : (t : Option Target) (a c : Moment) → c.reads ≡ a.reads → Blames t (sinks_of a) (sinks_of c) → Licensed (object t) a c
+licensed_read : (t : Option Target) (a c : Snapshot) → c.reads ≡ a.reads → Blames t (sinks_of a) (sinks_of c) → Licensed (object t) a c
 licensed_read None a c e h = (e, h.outs, h.errs)
 licensed_read (Some StdOut) a c e h = (e, h.0, h.1)
 licensed_read (Some StdErr) a c e h = (e, h.0, h.1)
 
-licensed_unread : (t : Option Target) (a c : Moment) → Rose a.reads c.reads → (t ≡ Some StdOut → ⊥) → Blames t (sinks_of a) (sinks_of c) → Licensed (Some input) a c
+licensed_unread : (t : Option Target) (a c : Snapshot) → Rose a.reads c.reads → (t ≡ Some StdOut → ⊥) → Blames t (sinks_of a) (sinks_of c) → Licensed (Some input) a c
 licensed_unread None a c rose free h = (rose, h.outs, omega (arith, h.errs))
 licensed_unread (Some StdOut) a c rose free h = absurd (free refl)
 licensed_unread (Some StdErr) a c rose free h = (rose, h.0, h.1.later)
@@ -50,7 +53,7 @@ unread_by None names bytes reading r e = cc
 unread_by (Some command) names bytes reading r e = refl
 
 -- of an input that is read as this, and a walk that came to this
-module _ (asked : Asked) (after : List PluginSeen) (a c : Moment) (bytes : List ℕ) (reading : Reading) (is_reading : IsReadingOf (chars bytes) reading) (r : Reached) (fed : Fed asked.command bytes a.left c.left) where
+module _ (asked : Asked) (after : List PluginSeen) (a c : Snapshot) (bytes : List ℕ) (reading : Reading) (is_reading : IsReadingOf (chars bytes) reading) (r : Reached) (fed : Fed asked.command bytes a.left c.left) where
   abbrev plan_by : Bool → Plan
   plan_by unread = plan_of asked.command (names_of asked.shelf) bytes reading r unread
 
@@ -158,11 +161,11 @@ module _ (asked : Asked) (after : List PluginSeen) (a c : Moment) (bytes : List 
   stranded_by true stage rose same wanted kept k = stranded_unread stage (wanted refl) (rose refl) kept k
   stranded_by false stage rose same wanted kept k = stranded_read stage (same refl) kept k
 
-pub ended_run : (asked : Asked) (after : List PluginSeen) (a c : Moment) (e : Settled) (p : S.Prepared) → IsPrepared asked after a.left c.left a.reads c.reads (stage_seen p) → Carried (plan_seen p.plan) (sinks_of a) (sinks_of c) e → Runs asked after a c (Ok (record { status = e.status; fault = e.fault; log = p.log; work = p.work }))
+pub ended_run : (asked : Asked) (after : List PluginSeen) (a c : Snapshot) (e : Settled) (p : S.Prepared) → IsPrepared asked after a.left c.left a.reads c.reads (stage_seen p) → Carried (plan_seen p.plan) (sinks_of a) (sinks_of c) e → Runs asked after a c (Ok (record { status = e.status; fault = e.fault; log = p.log; work = p.work }))
 ended_run asked after a c e p h k = (
   ended_by asked after a c h.bytes h.reading h.is_reading h.reached h.fed h.unread e (plan_seen p.plan) p.log p.work h.rose h.same h.wanted h.is_read h.kept (subst (λ q. Carried q (sinks_of a) (sinks_of c) e) h.is k),
   h.kept.heard,
 )
 
-pub stranded_run : (asked : Asked) (after : List PluginSeen) (a c : Moment) (p : S.Prepared) → IsPrepared asked after a.left c.left a.reads c.reads (stage_seen p) → Stranded (plan_seen p.plan) (sinks_of a) (sinks_of c) → RanOut asked after a c
+pub stranded_run : (asked : Asked) (after : List PluginSeen) (a c : Snapshot) (p : S.Prepared) → IsPrepared asked after a.left c.left a.reads c.reads (stage_seen p) → Stranded (plan_seen p.plan) (sinks_of a) (sinks_of c) → RanOut asked after a c
 stranded_run asked after a c p h k = inl (stranded_by asked after a c h.bytes h.reading h.is_reading h.reached h.fed h.unread (stage_seen p) h.rose h.same h.wanted h.kept (subst (λ q. Stranded q (sinks_of a) (sinks_of c)) h.is k))

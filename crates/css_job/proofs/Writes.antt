@@ -11,7 +11,8 @@ use Rattle.node_store.specs.Forest.{Forest, tree_of}
 use Rattle.visitor_walk.specs.declared.walk_end.WalkEnd.{WalkEnd}
 use Rattle.visitor_walk.specs.declared.walk_end.WalkEnd.TheVariants as W
 use Rattle.css_job.specs.Trace.{trace}
-use Rattle.css_job.specs.Plan.{Piece, to_err, to_out, traced, printed}
+use Rattle.css_job.specs.Plan.{Piece, to_err, to_out}
+use Rattle.css_job.specs.TransformPlan.{traced, printed}
 use Rattle.css_job.specs.Stages.{piece_of}
 use Rattle.css_job.specs.declared.plan.Write.{Write}
 use Rattle.css_job.specs.declared.target.Target.TheVariants.{StdOut, StdErr}

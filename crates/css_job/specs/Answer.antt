@@ -1,8 +1,10 @@
 -- What a run answers and writes, as a function of its command, the names of the shelf's plugins, its input, what that is read as, what its walk came to, and the object whose call failed first.
 use Rattle.std.specs.Prelude.{ℕ, List, [], ◌∷◌, ◌++◌, Bool, true, false, Option, Some, None, if◌then◌else◌}
 use Rattle.css_job.specs.Faults.{line_of, name_of}
-use Rattle.css_job.specs.Words.{Command}
-use Rattle.css_job.specs.Plan.{Piece, Plan, Reached, plan_of, to_err}
+use Rattle.command_words.specs.Words.{Command}
+use Rattle.css_job.specs.Plan.{Piece, Plan, to_err}
+use Rattle.css_job.specs.TransformPlan.{Reached}
+use Rattle.css_job.specs.CommandPlan.{plan_of}
 use Rattle.css_job.specs.Reading.{Reading}
 use Rattle.css_job.specs.declared.fault.Fault.{Fault}
 use Rattle.css_job.specs.declared.fault.Fault.TheVariants.{WriteFault}

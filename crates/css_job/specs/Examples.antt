@@ -12,8 +12,8 @@ use Rattle.node_store.specs.declared.item.Moment.{Moment}
 use Rattle.visitor_walk.specs.declared.walk_end.WalkEnd.TheVariants as W
 use Rattle.css_tree.specs.Examples.{sheet, at, ending, plain, in_rule}
 use Rattle.css_job.specs.Reading.{Reading, IsReadingOf}
-use Rattle.css_job.specs.Words.{Command, command_of}
-use Rattle.css_job.specs.Plan.{Reached}
+use Rattle.command_words.specs.Words.{Command, command_of}
+use Rattle.css_job.specs.TransformPlan.{Reached}
 use Rattle.css_job.specs.Answer.{Object, Answer, input, write_to, answer}
 use Rattle.css_job.specs.declared.fault.Fault.TheVariants.{Usage, ReadFault, WriteFault, NotUtf8, Syntax, PluginFailed, BudgetSpent, EditBudgetSpent}
 use Rattle.css_job.specs.declared.target.Target.TheVariants.{StdOut, StdErr}
@@ -84,7 +84,7 @@ Dropped = answer (asked_by drop_words) names (codes "a{}") (Ok empty_rule) dropp
 abbrev pub failing : Reached
 failing = record { log = I.Pass ∷ I.Enter 0 ∷ I.Enter 1 ∷ I.Call 0 0 leaving ∷ I.Back (Some (codes "no")) ∷ []; end = W.Failed (codes "no") leaving; nodes = root_of (1 ∷ []) ∷ rule_node ∷ [] }
 
--- nothing is printed, and a line behind the trace says so
+-- nothing is printed, and a line after the trace says so
 abbrev pub Failing : Type 0
 Failing = answer (asked_by drop_words) names (codes "a{}") (Ok empty_rule) failing None
     ≡ record { fault = Some (PluginFailed (codes "no") leaving); status = 1; out = []; err = codes "pass\nenter 0\nenter 1\ncall drop-empty/0 RuleExit 1\nback fault\ncsswork: plugin drop-empty failed at RuleExit 1: no\n" }

@@ -2,8 +2,8 @@
 use Rattle.std.specs.Prelude.{ℕ, ◌==◌, List, [], ◌∷◌, ◌++◌, Bool, true, false, length, codes, decimal, encode_utf8_all, count_by, if◌then◌else◌}
 use Rattle.std.specs.List.{flat_map}
 use Rattle.css_text.specs.declared.text.Place.{Place}
-use Rattle.css_job.specs.declared.warning.Severity.{Severity}
-use Rattle.css_job.specs.declared.warning.Severity.TheVariants as S
+use Rattle.css_job.specs.declared.lint.warning.Severity.{Severity}
+use Rattle.css_job.specs.declared.lint.warning.Severity.TheVariants as S
 use Rattle.css_job.specs.Trace.{line}
 use Rattle.css_job.specs.Warnings.{Warning}
 

@@ -11,13 +11,16 @@ use Rattle.node_store.specs.declared.item.Item.{Item}
 use Rattle.node_store.specs.Forest.{Forest}
 use Rattle.plugin_api.specs.Shelf.{PluginSeen}
 use Rattle.visitor_walk.specs.Heard.{Hears}
-use Rattle.css_job.specs.Words.{Command, Transform}
+use Rattle.command_words.specs.Words.{Command, Transform}
 use Rattle.css_job.specs.Reading.{Reading, IsReadingOf}
 use Rattle.css_job.specs.Faults.{line_of, name_of}
-use Rattle.css_job.specs.Plan.{Piece, Plan, Reached, Turn, plan_of, input_plan, text_plan, turn_of, kept_log}
+use Rattle.css_job.specs.Plan.{Piece, Plan}
+use Rattle.css_job.specs.TransformPlan.{Reached, Turn, turn_of, kept_log}
+use Rattle.css_job.specs.CommandPlan.{plan_of, input_plan, text_plan}
 use Rattle.css_job.specs.declared.prepared.Prepared as S
 use Rattle.css_job.specs.Answer.{finish_with, begun, bytes_for}
-use Rattle.css_job.specs.Outside.{Asked, Fed, IsRead, Took, TookFront, Heard, IsCutLog, names_of}
+use Rattle.css_job.specs.Stated.{Asked, Heard, IsCutLog, names_of}
+use Rattle.css_job.specs.Outside.{Fed, IsRead, Took, TookFront}
 use Rattle.css_job.specs.Walked.{IsWalked, IsKept}
 use Rattle.css_job.specs.declared.fault.Fault.{Fault}
 use Rattle.css_job.specs.declared.fault.Fault.TheVariants as F
@@ -66,7 +69,7 @@ pub record IsTextPlan (command : Command) (shelf after : List PluginSeen) (s : L
   pub kept : Kept shelf after s (command_turn command reading) reached stage
   pub is : stage.plan ≡ text_plan command (names_of shelf) s reading reached
 
--- the visitors before a want of memory
+-- the visitors, where a run was out of memory
 pub record CutOff (shelf after : List PluginSeen) (command : Option Command) (s : List ℕ) : Type 0 where
   pub log : List Item
   pub cut : (log ≡ []) ⊎ IsCutLog shelf command s log

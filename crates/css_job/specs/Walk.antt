@@ -24,15 +24,15 @@ abbrev pub later_on : List Node → List ℕ → List Entry
 later_on ns [] = []
 later_on ns (n ∷ ms) = entries (number_trees ns (siblings ns n)) ++ later_on ns ms
 
--- those behind n and all that stands below it
+-- those after n and all that stands below it
 unfoldable pub later : List Node → ℕ → List Entry
 later ns n = later_on ns (path ns n)
 
--- those behind n
+-- those after n
 unfoldable pub onward : List Node → ℕ → List Entry
 onward ns n = entries (below ns n) ++ later ns n
 
--- n and those behind it; none where it is none
+-- n and those after it; none where it is none
 abbrev pub from : List Node → Option ℕ → List Entry
 from ns None = []
 from ns (Some n) = record { number = n; children = below ns n } ∷ onward ns n

@@ -14,7 +14,7 @@ use Rattle.visitor_walk.specs.declared.walk_end.WalkEnd.TheVariants.{Done}
 use Rattle.visitor_walk.specs.Picked.{picked_hooks}
 use Rattle.visitor_walk.specs.Heard.{KeepDuties}
 use Rattle.visitor_walk.specs.Walk.{Ends}
-use Rattle.css_job.specs.Plan.{Turn, Reached, budget_for}
+use Rattle.css_job.specs.TransformPlan.{Turn, Reached, budget_for}
 
 -- A log is a run from the fresh forest of the text, with the picked hooks of the shelf and under the budget of edits; between a call and its end stand the edits of its visitor's duty.
 pub record Run (hs : List PickedHook) (most : ℕ) (shelf : List PluginSeen) (s : List ℕ) (log : List Item) : Type 0 where

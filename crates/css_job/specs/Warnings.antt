@@ -9,8 +9,8 @@ use Rattle.css_tree.specs.declared.node.NodeText.{NodeText}
 use Rattle.css_tree.specs.declared.node.NodeText.TheVariants as N
 use Rattle.css_tree.specs.Tree.{Trees, none, node}
 use Rattle.css_tree.specs.Laws.{start_of}
-use Rattle.css_job.specs.declared.warning.Severity.{Severity}
-use Rattle.css_job.specs.declared.warning.Severity.TheVariants.{Error}
+use Rattle.css_job.specs.declared.lint.warning.Severity.{Severity}
+use Rattle.css_job.specs.declared.lint.warning.Severity.TheVariants.{Error}
 use Rattle.css_job.specs.Faults.{kind_name}
 use Rattle.css_job.specs.Reading.{Reading}
 

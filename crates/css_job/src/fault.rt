@@ -3,7 +3,7 @@ ghost use Rattle.std.specs.Prelude.{◌≡◌, ℕ, List, IfOk, string_bytes};
 ghost use Rattle.std.specs.Str.{chars};
 ghost use Rattle.css_job.specs.Faults.{line_of, kind_name};
 
-use crate::item_names::event_name;
+use crate::transform::item_names::event_name;
 use css_text::text::Place;
 use css_text::txt::Txt;
 use css_tree::fault::{SyntaxFault, SyntaxKind};
@@ -111,7 +111,7 @@ fn edit_budget_text(
 ///
 /// # Errors
 ///
-/// Only for want of memory.
+/// Only when out of memory.
 pub fn fault_text(alloc: Global, plugin: &Txt, fault: &Fault) -> Result<String, AllocError>
     ensures { IfOk result (λ text. string_bytes text ≡ line_of plugin.now fault.now) }
 {

@@ -1,7 +1,7 @@
 // Laws on the definitions alone.
 ghost use Rattle.std.specs.Prelude.{◌≡◌, Option};
 ghost use Rattle.css_job.specs.Answer.{Object};
-ghost use Rattle.css_job.specs.Outside.{Moment, Licensed};
+ghost use Rattle.css_job.specs.Outside.{Snapshot, Licensed};
 ghost use Rattle.css_job.specs.Pinned.{BelowLast};
 ghost use Rattle.css_job.specs.Laws.{SomeReading, OneReading, BraceFollows, InOrder};
 ghost use Rattle.css_job.specs.OneOutcome.{OneCommand, OneOutcome};
@@ -10,7 +10,7 @@ ghost use Rattle.css_job.specs.Examples.{EmptyBlock, Printed, Dropped, Failing, 
 
 /// Where no count stands at its last value, the counts tell which object failed first.
 pub fn failed_is_pinned()
-    ensures { (f g : Option Object) (old new : Moment) → BelowLast old → Licensed f old new →
+    ensures { (f g : Option Object) (old new : Snapshot) → BelowLast old → Licensed f old new →
         Licensed g old new → f ≡ g }
 {}
 

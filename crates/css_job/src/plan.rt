@@ -32,7 +32,7 @@ pub struct Plan {
 ///
 /// # Errors
 ///
-/// Only for want of memory.
+/// Only when out of memory.
 pub fn stop(alloc: Global, fault: Fault, status: u8) -> Result<Plan, AllocError>
     requires { status ≡ status_of fault }
     ensures { IfOk result (λ plan. plan_seen plan ≡ stopped fault) }
@@ -50,7 +50,7 @@ pub fn stop(alloc: Global, fault: Fault, status: u8) -> Result<Plan, AllocError>
 ///
 /// # Errors
 ///
-/// Only for want of memory.
+/// Only when out of memory.
 pub fn one_write(alloc: Global, to: Target, text: Txt, status: u8) -> Result<Plan, AllocError>
     ensures { IfOk result (λ plan. plan_seen plan ≡ writing to text status) }
 {

@@ -1,21 +1,20 @@
 // The first stage of a run: all that it reads, and the walk.
 ghost use Rattle.std.specs.Prelude.{◌≡◌, ◌<◌, ◌≤◌, IfOk, map, length, vec_len};
-ghost use Rattle.plugin_api.specs.declared.visitor.Told.{Told};
-ghost use Rattle.plugin_api.specs.declared.visitor.Duty.{Duty};
-ghost use Rattle.plugin_api.specs.Shelf.{PluginSeen, shelf_seen};
 ghost use Rattle.visitor_walk.specs.Groups.{AreFew};
-ghost use Rattle.css_job.specs.Words.{word};
+ghost use Rattle.command_words.specs.Words.{word};
+ghost use Rattle.command_words.specs.CommandSeen.{command_seen, Picks};
+ghost use Rattle.css_job.specs.ShelfSeen.{seen_by};
 ghost use Rattle.css_job.specs.Plan.{limit};
-ghost use Rattle.css_job.specs.Outside.{asked};
+ghost use Rattle.css_job.specs.Stated.{asked};
 ghost use Rattle.css_job.specs.Stages.{PlansInput, Prepares};
-ghost use Rattle.css_job.specs.CommandSeen.{command_seen, Picks};
 
+use crate::asked::asked_command;
 use crate::command::text_plan_of;
 use crate::fault::Fault;
 use crate::input::{large_input, unread_input, wrong_input};
 use crate::plan::stop;
 use crate::prepared::{Prepared, unwalked};
-use crate::words::{Command, command_of};
+use command_words::commands::Command;
 use css_text::stop::Stop;
 use css_text::text::Text;
 use io_edge::edge::{ReadStop, Source};
@@ -25,9 +24,9 @@ use plugin_api::visitor::Visitor;
 use std::alloc::{AllocError, Global};
 
 /// The most bytes of an input.
-const LIMIT: usize = 8_388_608;
+const MOST_INPUT: usize = 8_388_608;
 
-// What a command does with an input of at most 8,388,608 bytes.
+/// What a command does with an input of at most `MOST_INPUT` bytes.
 fn input_plan_of(
     alloc: Global,
     command: Command,
@@ -38,8 +37,7 @@ fn input_plan_of(
     requires places { Picks (length shelf.old.items) command }
     requires plugins { vec_len shelf.old < 4294967296 }
     requires hooks { AreFew shelf.old.items }
-    ensures { let seen = shelf_seen (λ b. (⟦<dyn Visitor as Visitor>⟧ b.vtable).told b.value) (λ b. (⟦<dyn Visitor as Visitor>⟧ b.vtable).said b.value) (λ b. (⟦<dyn Visitor as Visitor>⟧ b.vtable).duty b.value) (λ b. (⟦<dyn Visitor as Visitor>⟧ b.vtable).left b.value) in
-        PlansInput (command_seen command) (seen shelf.old.items) (seen shelf.new.items) bytes.items result }
+    ensures { PlansInput (command_seen command) (seen_by ⟦<dyn Visitor as Visitor>⟧ shelf.old.items) (seen_by ⟦<dyn Visitor as Visitor>⟧ shelf.new.items) bytes.items result }
 {
     match Text::new(alloc, bytes) {
         Ok(text) => text_plan_of(alloc, command, text, shelf),
@@ -60,11 +58,10 @@ pub fn prepare<S: Source>(
 ) -> Result<Prepared, AllocError>
     requires plugins { vec_len shelf.old < 4294967296 }
     requires hooks { AreFew shelf.old.items }
-    ensures { let seen = shelf_seen (λ b. (⟦<dyn Visitor as Visitor>⟧ b.vtable).told b.value) (λ b. (⟦<dyn Visitor as Visitor>⟧ b.vtable).said b.value) (λ b. (⟦<dyn Visitor as Visitor>⟧ b.vtable).duty b.value) (λ b. (⟦<dyn Visitor as Visitor>⟧ b.vtable).left b.value) in
-        Prepares (asked (map word words.now) (seen shelf.old.items)) (seen shelf.new.items) (S.left input.old) (S.left input.new) (S.faults input.old)
+    ensures { Prepares (asked (map word words.now) (seen_by ⟦<dyn Visitor as Visitor>⟧ shelf.old.items)) (seen_by ⟦<dyn Visitor as Visitor>⟧ shelf.new.items) (S.left input.old) (S.left input.new) (S.faults input.old)
         (S.faults input.new) result }
 {
-    let command = match command_of(alloc, words, shelf) {
+    let command = match asked_command(alloc, words, shelf) {
         Ok(Some(command)) => command,
         Ok(None) => {
             let plan = stop(alloc, Fault::Usage, 64)?;
@@ -72,7 +69,7 @@ pub fn prepare<S: Source>(
         }
         Err(error) => return Err(error),
     };
-    match read_all(alloc, input, LIMIT) {
+    match read_all(alloc, input, MOST_INPUT) {
         Ok(bytes) => input_plan_of(alloc, command, bytes, shelf),
         Err(ReadStop::ReadFault) => {
             let plan = unread_input(alloc)?;

@@ -4,6 +4,7 @@ ghost use Rattle.visitor_walk.specs.Groups.{AreFew};
 
 use crate::fault::Fault;
 use crate::run::{Ended, run};
+use io_edge::folder::MemFolder;
 use io_edge::memory::{MemSink, MemSource};
 use plugin_api::plugin::Plugin;
 use std::alloc::{AllocError, Global};
@@ -82,9 +83,18 @@ pub(crate) fn run_on(
     }
     let bytes = input.to_vec(alloc)?;
     let mut source = MemSource::new(alloc, bytes, vec![in alloc; failing.read]?);
+    let mut files = MemFolder::new(alloc, Vec::new(alloc));
     let mut out = MemSink::new(alloc, failing.most, vec![in alloc; failing.out]?);
     let mut err = MemSink::new(alloc, failing.most, vec![in alloc; failing.err]?);
-    let ended = run(alloc, &given, &mut source, &mut out, &mut err, shelf)?;
+    let ended = run(
+        alloc,
+        &given,
+        &mut source,
+        &mut files,
+        &mut out,
+        &mut err,
+        shelf,
+    )?;
     Ok(Outcome { ended, out, err })
 }
 

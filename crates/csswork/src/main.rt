@@ -1,8 +1,9 @@
-// The program: `css_job`'s run over the real streams.
+// The program: `css_job`'s run over the real streams and the folder that it runs in.
 #![tactic(auto)]
 
 use css_job::run::run;
 use io_edge::real::{StdErr, StdIn, StdOut};
+use io_edge::real_folder::RealFolder;
 use plugin_api::fn_visitor::FnVisitor;
 use plugin_api::recorder::Recorder;
 use plugin_api::visitor::Visitor;
@@ -13,7 +14,7 @@ use std::{env, mem};
 use transforms::acts::{DropComment, DropEmpty, ShortHex, Unnest};
 use transforms::shelf::{Visitors, shipped};
 
-/// The status for want of memory: `EX_TEMPFAIL` of `sysexits.h`.
+/// The status when out of memory: `EX_TEMPFAIL` of `sysexits.h`.
 const OUT_OF_MEMORY: u8 = 75;
 
 /// The program's words, without its own name. Words that aren't UTF-8, or can't be had, count as no
@@ -64,10 +65,13 @@ fn status_of(rt: &HostRuntime) -> Result<u8, AllocError> {
         unnest,
     };
     let mut input = StdIn::new(rt.stdin());
+    let mut files = RealFolder::new(rt, alloc);
     let mut out = StdOut::new(rt.stdout());
     let mut err = StdErr::new(rt.stderr());
     let mut shelf = shipped(alloc, visitors)?;
-    let ended = run(alloc, &words, &mut input, &mut out, &mut err, &mut shelf)?;
+    let ended = run(
+        alloc, &words, &mut input, &mut files, &mut out, &mut err, &mut shelf,
+    )?;
     let status = ended.status;
 
     // The system takes the process's memory back at once, which is faster than dropping node by node.

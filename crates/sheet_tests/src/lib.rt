@@ -1,8 +1,8 @@
-// Tests across crates, on sheets that are read from their text: edit calls, walks, and runs with plugins that edit.
+// Tests across crates, on sheets that are read from their text: edit calls, and walks with plugins that edit. What those
+// plugins do is public, for the tests of the crates above.
 #![tactic(auto)]
 
-#[cfg(test)]
-mod deeds;
+pub mod deeds;
 #[cfg(test)]
 mod edit_model;
 #[cfg(test)]
@@ -11,10 +11,8 @@ mod edits;
 mod printed;
 #[cfg(test)]
 mod rows;
-#[cfg(test)]
-mod runs;
-#[cfg(test)]
-mod script;
+pub mod script;
+pub mod shelves;
 #[cfg(test)]
 mod shown;
 #[cfg(test)]

@@ -1,8 +1,8 @@
 // Walks of sheets that are read from their text, with a shelf of one plugin.
-ghost use Rattle.std.specs.Prelude.{◌≡◌, ◌≤◌, IfOk, length};
-ghost use Rattle.visitor_walk.specs.Groups.{AreFew};
+ghost use Rattle.std.specs.Prelude.{◌≤◌, length};
 
 use crate::script::{Script, Step};
+use crate::shelves::shelf_of;
 use crate::shown::{end_text, told_first, trace};
 use css_parse::parse::parse;
 use css_text::text::Text;
@@ -83,20 +83,6 @@ pub fn sheet(alloc: Global, input: &str) -> Option<Work> {
         },
         Err(_) => None,
     }
-}
-
-/// A shelf of the plugin `p` with these hooks.
-pub fn shelf_of(alloc: Global, hooks: Vec<Hook>) -> Result<Vec<Plugin>, AllocError>
-    requires { length hooks.items ≤ 2 }
-    ensures few { IfOk result (λ shelf. AreFew shelf.items) }
-    ensures one { IfOk result (λ shelf. length shelf.items ≡ 1) }
-{
-    let mut shelf = Vec::new(alloc);
-    shelf.push(Plugin {
-        name: Txt::new(alloc, "p")?,
-        hooks,
-    })?;
-    Ok(shelf)
 }
 
 fn outcome_of(

@@ -1,6 +1,6 @@
 use Rattle.std.proofs.Common.{Some}
 use Rattle.plugin_api.specs.Shelf.{shelf_seen}
-use Rattle.css_job.specs.CommandSeen.{command_seen}
+use Rattle.command_words.specs.CommandSeen.{command_seen}
 use Rattle.css_job.proofs.Commands.{cut_none, of_fault, fault_of}
 use Rattle.css_job.proofs.command.text_plan_of.Goals as goal
 

@@ -18,10 +18,10 @@ use Rattle.css_tree.proofs.TreeOf.{trees}
 use Rattle.css_tree.proofs.Reader.{outcome, settle}
 use Rattle.css_tree.proofs.Reading.{reads-as}
 use Rattle.node_rows.specs.NumberTrees.{levels, number_trees}
-use Rattle.css_job.specs.Words.{command_of}
+use Rattle.command_words.specs.Words.{command_of}
 use Rattle.css_job.specs.Trace.{trace, caller}
 use Rattle.css_job.specs.Report.{report}
-use Rattle.css_job.specs.Plan.{text_plan}
+use Rattle.css_job.specs.CommandPlan.{text_plan}
 use Rattle.css_job.specs.Answer.{answer}
 use Rattle.css_job.specs.Examples.{unclosed}
 use Rattle.css_job.proofs.Readings.{faulty_as}

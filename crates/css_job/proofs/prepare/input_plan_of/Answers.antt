@@ -2,7 +2,7 @@ use Rattle.std.proofs.Common.{ap, sym, ◌∙◌, Some}
 use Rattle.std.specs.Str.{chars}
 use Rattle.css_text.specs.declared.stop.Stop.TheVariants.{Fault}
 use Rattle.plugin_api.specs.Shelf.{shelf_seen}
-use Rattle.css_job.specs.CommandSeen.{command_seen}
+use Rattle.command_words.specs.CommandSeen.{command_seen}
 use Rattle.css_job.specs.Stages.{plan_seen}
 use Rattle.css_job.proofs.Commands.{text_few, text_planned, wrong_planned, cut_none}
 use Rattle.css_job.proofs.prepare.input_plan_of.Goals as goal

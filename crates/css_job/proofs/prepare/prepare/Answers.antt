@@ -1,9 +1,9 @@
 use Rattle.std.proofs.Common.{sym, ap, ◌∙◌, map}
 use Rattle.std.specs.Option.{option_map}
 use Rattle.plugin_api.specs.Shelf.{shelf_seen}
-use Rattle.css_job.specs.Words.{word, command_of}
-use Rattle.css_job.specs.CommandSeen.{command_seen}
-use Rattle.css_job.specs.Outside.{asked}
+use Rattle.command_words.specs.Words.{word, command_of}
+use Rattle.command_words.specs.CommandSeen.{command_seen}
+use Rattle.css_job.specs.Stated.{asked}
 use Rattle.css_job.specs.Stages.{plan_seen}
 use Rattle.css_job.proofs.Commands.{names_seen}
 use Rattle.css_job.proofs.Reading.{not_taken, none_read, failed_unasked, prepared_whole, prepared_unread, failed_unread, prepared_large, failed_large, unprepared_memory}

@@ -1,0 +1,5 @@
+pub mod Words
+pub mod GivenSeen
+pub mod NamesLeft
+pub mod WordsExamples
+pub mod CommandSeen
