@@ -10,7 +10,7 @@ use Rattle.css_text.specs.Characters.{is_space}
 use Rattle.css_tree.specs.declared.node.Block.{Block}
 use Rattle.css_tree.specs.declared.node.Source.{Source}
 use Rattle.css_tree.specs.declared.node.NodeText.TheVariants as N
-use Rattle.css_tree.specs.Pieces.{Piece, Shape, shape, shape_of, at_shape, single_shape, is_blank, is_blank_shape, join}
+use Rattle.css_tree.specs.Pieces.{Lexeme, Shape, shape, shape_of, at_shape, single_shape, is_blank, is_blank_shape, join}
 use Rattle.css_tree.specs.Clean.{clean_of}
 use Rattle.css_tree.specs.Fields.{source_text}
 use Rattle.css_tree.specs.Mark.{part, part_by}
@@ -33,13 +33,13 @@ join-gap t = join-one _
 abbrev pub Sourced : Source → List ℕ → Type 0
 Sourced s t = s ≡ record { source = t; clean = clean_of t }
 
-sourced : (s : Source) (t : List ℕ) (ps : List Piece) → Sourced s t → t ≡ join ps → s ≡ source_text ps
+sourced : (s : Source) (t : List ℕ) (ps : List Lexeme) → Sourced s t → t ≡ join ps → s ≡ source_text ps
 sourced s t ps e h = e ∙ ap (λ z. record { source = z; clean = clean_of z }) h
 
 less-zero : (n : ℕ) → n - 0 ≡ n
 less-zero n = omega arith
 
-pub rule_made : (b : List ℕ) (r : List Piece) (blk : Block) (n : ℕ) (before text between : List ℕ) (sel : Source)
+pub rule_made : (b : List ℕ) (r : List Lexeme) (blk : Block) (n : ℕ) (before text between : List ℕ) (sel : Source)
     → before ≡ b → text ≡ join (take n r) → Sourced sel text → between ≡ join (drop n r) → take n r ≡ solid r → drop n r ≡ tail r
     → N.Rule (Some before) sel between blk ≡ rule_text (gap_of b) r blk
 rule_made b r blk n before text between sel e1 e2 e3 e4 f g =
@@ -53,29 +53,29 @@ no-more n k = ne_eqb n (n + suc k) (λ e. omega arith)
 same-place : (n : ℕ) → (n == n + 0) ≡ true
 same-place n = eq-eqb n (n + 0) (omega arith)
 
-take-some : (k : ℕ) (xs : List Piece) → suc k ≤ length xs → (x : Piece) × (ys : List Piece) × (take (suc k) xs ≡ x ∷ ys)
+take-some : (k : ℕ) (xs : List Lexeme) → suc k ≤ length xs → (x : Lexeme) × (ys : List Lexeme) × (take (suc k) xs ≡ x ∷ ys)
 take-some k [] l = absurd (omega arith)
 take-some k (x ∷ xs) l = (x, take k xs, refl)
 
-at-names : (n k : ℕ) (r p : List Piece) → take n r ≡ lead r → p ≡ take k (drop n r) → k ≤ length (drop n r)
+at-names : (n k : ℕ) (r p : List Lexeme) → take n r ≡ lead r → p ≡ take k (drop n r) → k ≤ length (drop n r)
     → take (if n == n + k then 0 else n) r ≡ after_name_of r p
 at-names n zero r p f e l = rw (same-place n) (ap (after_name_of r) (sym e))
 at-names n (suc k) r p f e l =
     let t = take-some k (drop n r) l in
     rw (no-more n k) (f ∙ ap (after_name_of r) (sym (e ∙ t.2)))
 
-drop-more : (n k : ℕ) (r : List Piece) → drop (n + k) r ≡ drop k (drop n r)
+drop-more : (n k : ℕ) (r : List Lexeme) → drop (n + k) r ≡ drop k (drop n r)
 drop-more n k r = sym (drop-drop k n r)
 
 -- what follows a place, as code takes it
-pub rest-from : (n : ℕ) (r : List Piece) → take (length r - n) (drop n r) ≡ drop n r
+pub rest-from : (n : ℕ) (r : List Lexeme) → take (length r - n) (drop n r) ≡ drop n r
 rest-from n r = ap (λ z. take z (drop n r)) (sym (length-drop n r)) ∙ take-all (drop n r)
   where
-    take-all : (ys : List Piece) → take (length ys) ys ≡ ys
+    take-all : (ys : List Lexeme) → take (length ys) ys ≡ ys
     take-all [] = refl
     take-all (y ∷ ys) = ap (λ z. y ∷ z) (take-all ys)
 
-at-between : (n k : ℕ) (r p : List Piece) → drop n r ≡ unlead r → drop k (drop n r) ≡ tail (drop n r) → p ≡ take k (drop n r) → k ≤ length (drop n r)
+at-between : (n k : ℕ) (r p : List Lexeme) → drop n r ≡ unlead r → drop k (drop n r) ≡ tail (drop n r) → p ≡ take k (drop n r) → k ≤ length (drop n r)
     → drop (if n == n + k then 0 else n + k) r ≡ between_of r p
 at-between n zero r p f g e l = rw (same-place n) (ap (between_of r) (sym e))
 at-between n (suc k) r p f g e l =
@@ -85,7 +85,7 @@ at-between n (suc k) r p f g e l =
 plus-less : (n k : ℕ) → n + k - n ≡ k
 plus-less n k = omega arith
 
-pub at_rule_made : (b : List ℕ) (w : Piece) (r : List Piece) (blk : Option Block) (n k : ℕ) (before name after text between : List ℕ) (params : Source)
+pub at_rule_made : (b : List ℕ) (w : Lexeme) (r : List Lexeme) (blk : Option Block) (n k : ℕ) (before name after text between : List ℕ) (params : Source)
     → before ≡ b → name ≡ drop 1 w.text → text ≡ join (take (n + k - n) (drop n r)) → Sourced params text
     → after ≡ join (take (if n == n + k then 0 else n) r) → between ≡ join (drop (if n == n + k then 0 else n + k) r)
     → take n r ≡ lead r → drop n r ≡ unlead r → take k (drop n r) ≡ solid (drop n r) → drop k (drop n r) ≡ tail (drop n r) → k ≤ length (drop n r)
@@ -102,30 +102,30 @@ at_rule_made b w r blk n k before name after text between params e1 e2 e3 e4 e5 
 
 -- A declaration.
 
-pub take_plus : (m k : ℕ) (r : List Piece) → take (m + k) r ≡ take m r ++ take k (drop m r)
+pub take_plus : (m k : ℕ) (r : List Lexeme) → take (m + k) r ≡ take m r ++ take k (drop m r)
 take_plus m k r = sym (take-append-drop m (take (m + k) r)) ∙ (ap (λ x. x ++ drop m (take (m + k) r)) (take-take m (m + k) r (omega arith)) ∙ ap (λ x. take m r ++ x) (drop-take m k r))
 
-past-suc : (n : ℕ) (r : List Piece) → n < length r → (drop (suc n) r ≡ rest_of (drop n r)) × (take (suc n) r ≡ take n r ++ first_list (drop n r))
+past-suc : (n : ℕ) (r : List Lexeme) → n < length r → (drop (suc n) r ≡ rest_of (drop n r)) × (take (suc n) r ≡ take n r ++ first_list (drop n r))
 past-suc n [] l = absurd (omega arith)
 past-suc zero (x ∷ r) l = (refl, refl)
 past-suc (suc n) (x ∷ r) l = let k = past-suc n r (omega arith) in (k.0, ap (λ z. x ∷ z) k.1)
 
-pub past_some : (n : ℕ) (r : List Piece) → n < length r → IsPast (n + 1) n r
+pub past_some : (n : ℕ) (r : List Lexeme) → n < length r → IsPast (n + 1) n r
 past_some n r l = let k = past-suc n r l in let e : n + 1 ≡ suc n = omega arith in
     record { within = omega arith; back = ap (λ z. drop z r) e ∙ k.0; front = ap (λ z. take z r) e ∙ k.1 }
 
-drop-end : (n : ℕ) (r : List Piece) → length r ≤ n → drop n r ≡ []
+drop-end : (n : ℕ) (r : List Lexeme) → length r ≤ n → drop n r ≡ []
 drop-end zero [] l = refl
 drop-end (suc n) [] l = refl
 drop-end zero (x ∷ r) l = absurd (omega arith)
 drop-end (suc n) (x ∷ r) l = drop-end n r (omega arith)
 
-pub past_none : (n : ℕ) (r : List Piece) → n ≤ length r → length r ≤ n → IsPast n n r
+pub past_none : (n : ℕ) (r : List Lexeme) → n ≤ length r → length r ≤ n → IsPast n n r
 past_none n r a b =
     let e = drop-end n r b in
     record { within = a; back = e ∙ ap rest_of (sym e); front = sym (ap (λ z. take n r ++ first_list z) e ∙ append-nil (take n r)) }
 
-pub declaration_made : (b : List ℕ) (w : Piece) (r : List Piece) (n colon k s : ℕ) (before prop between last : List ℕ) (v : Value)
+pub declaration_made : (b : List ℕ) (w : Lexeme) (r : List Lexeme) (n colon k s : ℕ) (before prop between last : List ℕ) (v : Value)
     → before ≡ b ++ hack w.text → prop ≡ drop (length (hack w.text)) w.text
     → between ≡ join (take (colon + k) r) → IsValue v (take (colon + k + s - (colon + k)) (drop (colon + k) r)) → last ≡ join (drop (colon + k + s) r)
     → take n r ≡ lead r → drop n r ≡ unlead r → IsPast colon n r
@@ -170,17 +170,17 @@ shape-word P.Single s t e = absurd (no-single s e)
         no-if (c == 59) _ _ (λ z. cc) (no-if (c == 58) _ _ (λ z. cc) (no-if (c == 123) _ _ (λ z. cc) (no-if (c == 125) _ _ (λ z. cc)
         (no-if (c == 40) _ _ (λ z. cc) (no-if (c == 41) _ _ (λ z. cc) (no-if (c == 91) _ _ (λ z. cc) (no-if (c == 93) _ _ (λ z. cc) (λ z. cc)))))))) e
 
-part-solid : (w : Piece) (t : List ℕ) → shape w ≡ Shape.word → is_blank (record w { text = t }) ≡ false
+part-solid : (w : Lexeme) (t : List ℕ) → shape w ≡ Shape.word → is_blank (record w { text = t }) ≡ false
 unfolding is_blank shape
 part-solid w t e = ap is_blank_shape (shape-word w.kind w.text t e)
 
-take-front : (e : ℕ) (f x : List Piece) → e ≤ length f → (take e (f ++ x) ≡ take e f) × (take (length f - e) (drop e (f ++ x)) ≡ drop e f)
+take-front : (e : ℕ) (f x : List Lexeme) → e ≤ length f → (take e (f ++ x) ≡ take e f) × (take (length f - e) (drop e (f ++ x)) ≡ drop e f)
 take-front zero f x l = (refl, take-whole f x)
   where
-    take-whole : (f x : List Piece) → take (length f - 0) (f ++ x) ≡ f
+    take-whole : (f x : List Lexeme) → take (length f - 0) (f ++ x) ≡ f
     take-whole f x = ap (λ z. take z (f ++ x)) (less-zero (length f)) ∙ take-len f x
       where
-        take-len : (f x : List Piece) → take (length f) (f ++ x) ≡ f
+        take-len : (f x : List Lexeme) → take (length f) (f ++ x) ≡ f
         take-len [] x = refl
         take-len (y ∷ f) x = ap (λ z. y ∷ z) (take-len f x)
 take-front (suc e) [] x l = absurd (omega arith)
@@ -190,11 +190,11 @@ take-front (suc e) (y ∷ f) x l =
     (ap (λ z. y ∷ z) k.0, ap (λ z. take z (drop e (f ++ x))) n ∙ k.1)
 
 -- what stands before the mark
-pub record Parts (f : List Piece) (w : Piece) (n e : ℕ) (body : List Piece) : Type 0 where
+pub record Parts (f : List Lexeme) (w : Lexeme) (n e : ℕ) (body : List Lexeme) : Type 0 where
   pub value : join (take e body) ++ take n w.text ≡ join (solid (f ++ part w n))
   pub blanks : join (take (length f - e) (drop e body)) ≡ join (tail (f ++ part w n))
 
-parts_by : (f x : List Piece) (w : Piece) (n e : ℕ) (t : List ℕ) → take n w.text ≡ t → shape w ≡ Shape.word → e ≤ length f
+parts_by : (f x : List Lexeme) (w : Lexeme) (n e : ℕ) (t : List ℕ) → take n w.text ≡ t → shape w ≡ Shape.word → e ≤ length f
     → (byte_len t ≡ 0 → take e f ≡ solid f) → (0 < byte_len t → e ≡ length f) → Parts f w n e (f ++ x)
 parts_by f x w n e [] h s l a b =
     let k = take-front e f x l in
@@ -218,28 +218,28 @@ parts_by f x w n e (c ∷ cs) h s l a b =
       blanks = ap join (ap (λ y. take y (drop e (f ++ x))) z ∙ (sym none ∙ ap tail (sym p)));
     }
   where
-    take-all : (ys : List Piece) → take (length ys) ys ≡ ys
+    take-all : (ys : List Lexeme) → take (length ys) ys ≡ ys
     take-all [] = refl
     take-all (y ∷ ys) = ap (λ z. y ∷ z) (take-all ys)
 
-take-len : (f x : List Piece) (m : ℕ) → m ≡ length f → take m (f ++ x) ≡ f
+take-len : (f x : List Lexeme) (m : ℕ) → m ≡ length f → take m (f ++ x) ≡ f
 take-len f x m e = ap (λ z. take z (f ++ x)) e ∙ go f
   where
-    go : (f : List Piece) → take (length f) (f ++ x) ≡ f
+    go : (f : List Lexeme) → take (length f) (f ++ x) ≡ f
     go [] = refl
     go (y ∷ f) = ap (λ z. y ∷ z) (go f)
 
-drop-len : (f x : List Piece) (w : Piece) (m : ℕ) → m ≡ length f → drop (m + 1) (f ++ w ∷ x) ≡ x
+drop-len : (f x : List Lexeme) (w : Lexeme) (m : ℕ) → m ≡ length f → drop (m + 1) (f ++ w ∷ x) ≡ x
 drop-len f x w m e = let k : m + 1 ≡ suc (length f) = omega (arith, e) in ap (λ z. drop z (f ++ w ∷ x)) k ∙ go f
   where
-    go : (f : List Piece) → drop (suc (length f)) (f ++ w ∷ x) ≡ x
+    go : (f : List Lexeme) → drop (suc (length f)) (f ++ w ∷ x) ≡ x
     go [] = refl
     go (y ∷ f) = go f
 
 zero-bytes : (n : ℕ) (t : List ℕ) → n ≡ byte_len t → byte_len t ≡ 0 → n ≡ 0
 zero-bytes n t e f = e ∙ f
 
-pub value_marked : (m : Mark) (body : List Piece) (e : ℕ) (v : Value) (text : List ℕ) → IsMarkOf m body → IsValueLen e m body
+pub value_marked : (m : Mark) (body : List Lexeme) (e : ℕ) (v : Value) (text : List ℕ) → IsMarkOf m body → IsValueLen e m body
     → Sourced v.source text → text ≡ join (take e body) ++ chars m.word.front.now → v.important ≡ true
     → v.important_raw ≡ join (take (m.before - e) (drop e body)) ++ (chars m.word.back.now ++ join (drop (m.before + 1) body)) → IsValue v body
 value_marked m body e v text h l s t i r =
@@ -260,7 +260,7 @@ value_marked m body e v text h l s t i r =
           ∙ (ap (λ z. join (tail (a.front ++ part a.word a.n)) ++ (drop a.n a.word.text ++ join z)) back ∙ ap important_of (sym h.found)))));
     }
 
-pub value_unmarked : (body : List Piece) (v : Value) (text : List ℕ) → mark_of body ≡ None → Sourced v.source text → text ≡ join body → v.important ≡ false → v.important_raw ≡ [] → IsValue v body
+pub value_unmarked : (body : List Lexeme) (v : Value) (text : List ℕ) → mark_of body ≡ None → Sourced v.source text → text ≡ join body → v.important ≡ false → v.important_raw ≡ [] → IsValue v body
 value_unmarked body v text h s t i r =
     record {
       source = sourced v.source text body s t ∙ ap (λ z. source_text (value_of z body)) (sym h);
@@ -269,7 +269,7 @@ value_unmarked body v text h s t i r =
     }
 
 -- A comment.
-pub comment_made : (b : List ℕ) (p : Piece) (inner before left text right : List ℕ) → before ≡ b → inner ≡ inner_of p.text
+pub comment_made : (b : List ℕ) (p : Lexeme) (inner before left text right : List ℕ) → before ≡ b → inner ≡ inner_of p.text
     → left ≡ lead_by is_space inner → text ≡ solid_by is_space (unlead_by is_space inner) → right ≡ tail_by is_space (unlead_by is_space inner)
     → N.Comment (Some before) left text right ≡ comment_text (gap_of b) p
 comment_made b p inner before left text right e1 e2 e3 e4 e5 =

@@ -7,7 +7,7 @@ use Rattle.css_text.specs.Ahead.{byte_len}
 use Rattle.css_text.proofs.Transport.{length-bytes}
 use Rattle.css_tree.specs.declared.node.Kind.TheVariants as K
 use Rattle.css_tree.specs.Parts.{kind_of, block_of}
-use Rattle.css_tree.specs.Pieces.{Piece, pieces_of}
+use Rattle.css_tree.specs.Pieces.{Lexeme, pieces_of}
 use Rattle.css_tree.specs.Nodes.{Nodes, none, comment, leaf, block, line}
 use Rattle.css_tree.specs.Reads.{Reads}
 use Rattle.css_tree.specs.Numbered.{number_after}
@@ -45,7 +45,7 @@ count-shift (block b r o k a c f) n = ap (λ z. count z f) (count-shift k (suc n
 flat-length : (f : Nodes) → length (flat 0 1 f) ≡ number_after 0 (trees f)
 flat-length f = omega (arith, count-length f 0 1, count-shift f 0, count-trees f 0)
 
-module _ (s : List ℕ) (f : Nodes) (a : List Piece) (bs : List ℕ) (u : IsUtf8 bs) (e : bs ≡ encodes s) (c : chars bs ≡ s) (short : length bs ≤ 67108864) (r : read s ≡ ok (finish f a)) where
+module _ (s : List ℕ) (f : Nodes) (a : List Lexeme) (bs : List ℕ) (u : IsUtf8 bs) (e : bs ≡ encodes s) (c : chars bs ≡ s) (short : length bs ≤ 67108864) (r : read s ≡ ok (finish f a)) where
   es : List NodeAt
   es = root_of s f a ∷ flat 0 1 f
 

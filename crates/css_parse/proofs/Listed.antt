@@ -2,9 +2,9 @@
 use Rattle.std.proofs.Common.{◌≡◌, ℕ, suc, List, [], ◌∷◌, ◌++◌, false, map, Some, refl, ◌∙◌, sym, ap}
 use Rattle.css_text.specs.Ahead.{byte_len, begins_bom}
 use Rattle.css_tree.specs.declared.node.Block.{Block}
-use Rattle.css_tree.specs.Pieces.{Piece, Shape, shape, join, end_of, pieces_of}
+use Rattle.css_tree.specs.Pieces.{Lexeme, Shape, shape, join, end_of, pieces_of}
 use Rattle.css_tree.specs.Fault.{Fault, lexical_fault, fault}
-use Rattle.css_tree.specs.Fields.{first_at, span_of}
+use Rattle.css_tree.specs.Fields.{begins_at, span_of}
 use Rattle.css_tree.specs.Nodes.{Nodes, none, comment, leaf, block, ends_with_semicolon}
 use Rattle.css_tree.specs.Reads.{block_of_nodes}
 use Rattle.css_tree.specs.Numbered.{number_after, numbered_below, numbered}
@@ -24,27 +24,27 @@ use Rattle.css_parse.proofs.MachineSteps.{same, gap-join}
 
 -- The nodes are those of the tree.
 
-leaf-alike : (s : Shape) (b c : List Piece) (w : Piece) (r : List Piece) → join b ≡ join c → leaf_text_by s b w r ≡ leaf_text_by s c w r
+leaf-alike : (s : Shape) (b c : List Lexeme) (w : Lexeme) (r : List Lexeme) → join b ≡ join c → leaf_text_by s b w r ≡ leaf_text_by s c w r
 leaf-alike Shape.at_name b c w r e = rw e refl
 leaf-alike _ b c w r e = rw e refl
 
-leaf-text : (b c r : List Piece) → join b ≡ join c → leaf_text b r ≡ leaf_text c r
+leaf-text : (b c r : List Lexeme) → join b ≡ join c → leaf_text b r ≡ leaf_text c r
 leaf-text b c [] e = refl
 leaf-text b c (w ∷ r) e = leaf-alike (shape w) b c w r e
 
-block-alike : (s : Shape) (b c : List Piece) (w : Piece) (r : List Piece) (x y : Block) → join b ≡ join c → with_block (block_text_by s b w r x) y ≡ block_text_by s c w r y
+block-alike : (s : Shape) (b c : List Lexeme) (w : Lexeme) (r : List Lexeme) (x y : Block) → join b ≡ join c → with_block (block_text_by s b w r x) y ≡ block_text_by s c w r y
 block-alike Shape.at_name b c w r x y e = rw e refl
 block-alike _ b c w r x y e = rw e refl
 
-block-text : (b c r : List Piece) (x y : Block) → join b ≡ join c → with_block (block_text b r x) y ≡ block_text c r y
+block-text : (b c r : List Lexeme) (x y : Block) → join b ≡ join c → with_block (block_text b r x) y ≡ block_text c r y
 block-text b c [] x y e = rw e refl
 block-text b c (w ∷ r) x y e = block-alike (shape w) b c w r x y e
 
-leaf-numbered : (j : ℕ) (b r : List Piece) → numbered_of (leaf_node j (join b) r) ≡ record { parent = j; text = leaf_text b r; span = leaf_span r }
+leaf-numbered : (j : ℕ) (b r : List Lexeme) → numbered_of (leaf_node j (join b) r) ≡ record { parent = j; text = leaf_text b r; span = leaf_span r }
 leaf-numbered j b [] = refl
 leaf-numbered j b (w ∷ r) = ap (λ z. record { parent = j; text = z; span = leaf_span (w ∷ r) }) (leaf-text (gap_of (join b)) b (w ∷ r) (gap-join (join b)))
 
-comment-text : (b c : List Piece) (p : Piece) → join b ≡ join c → comment_text b p ≡ comment_text c p
+comment-text : (b c : List Lexeme) (p : Lexeme) → join b ≡ join c → comment_text b p ≡ comment_text c p
 comment-text b c p e = rw e refl
 
 pub count-trees : (f : Nodes) (n : ℕ) → count n f ≡ number_after n (trees f)
@@ -68,15 +68,15 @@ flat-numbered (leaf b r e f) j n =
     ap (λ z. z ∷ map numbered_of (flat j (suc n) f)) (leaf-numbered j b r) ∙ ap (λ z. record { parent = j; text = leaf_text b r; span = leaf_span r } ∷ z) (flat-numbered f j (suc n))
 flat-numbered (block b r o k a c f) j n =
     let t = block_of_nodes k a in
-    ap (λ z. record { parent = j; text = z; span = span_of (first_at r o) (end_of c) } ∷ map numbered_of (flat n (suc n) k ++ flat j (count (suc n) k) f)) (block-text (gap_of (join b)) b r open_end t (gap-join (join b)))
-    ∙ ap (λ z. record { parent = j; text = block_text b r t; span = span_of (first_at r o) (end_of c) } ∷ z)
+    ap (λ z. record { parent = j; text = z; span = span_of (begins_at r o) (end_of c) } ∷ map numbered_of (flat n (suc n) k ++ flat j (count (suc n) k) f)) (block-text (gap_of (join b)) b r open_end t (gap-join (join b)))
+    ∙ ap (λ z. record { parent = j; text = block_text b r t; span = span_of (begins_at r o) (end_of c) } ∷ z)
     (map-append (flat n (suc n) k) (flat j (count (suc n) k) f) ∙ (ap (λ z. z ++ map numbered_of (flat j (count (suc n) k) f)) (flat-numbered k n (suc n))
     ∙ (ap (λ z. numbered_below n (suc n) (trees k) ++ z) (flat-numbered f j (count (suc n) k)) ∙ ap (λ z. numbered_below n (suc n) (trees k) ++ numbered_below j z (trees f)) (count-trees k (suc n)))))
 
-abbrev pub root_of : List ℕ → Nodes → List Piece → NodeAt
+abbrev pub root_of : List ℕ → Nodes → List Lexeme → NodeAt
 root_of s f a = seal_root (ends_with_semicolon false f) (join a) (root_node (begins_bom s) (byte_len s))
 
-pub all-numbered : (s : List ℕ) (f : Nodes) (a : List Piece) → map numbered_of (root_of s f a ∷ flat 0 1 f) ≡ numbered (tree_of s f a)
+pub all-numbered : (s : List ℕ) (f : Nodes) (a : List Lexeme) → map numbered_of (root_of s f a ∷ flat 0 1 f) ≡ numbered (tree_of s f a)
 unfolding numbered
 all-numbered s f a = ap (λ z. numbered_of (root_of s f a) ∷ z) (flat-numbered f 0 1)
 
@@ -95,7 +95,7 @@ whole-read s = same (pieces_of s) (lexical_fault s) (start (begins_bom s) (byte_
 -- the nodes of a reading
 pub record IsReading (s : List ℕ) (es : List NodeAt) : Type 0 where
   pub nodes : Nodes
-  pub behind : List Piece
+  pub behind : List Lexeme
   pub is_read : read s ≡ ok (finish nodes behind)
   pub entries : es ≡ root_of s nodes behind ∷ flat 0 1 nodes
 

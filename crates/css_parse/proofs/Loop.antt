@@ -6,14 +6,14 @@ use Rattle.css_text.specs.declared.lexer.Piece.{Piece as LexPiece}
 use Rattle.css_text.specs.declared.lexer.LexFault.{LexFault}
 use Rattle.css_text.specs.Pieces.{Unclosed, string, comment, url, cut}
 use Rattle.css_text.specs.PieceKinds.{IsOfKind, AreOfKinds}
-use Rattle.css_text.specs.Ahead.{Ahead, ahead, behind, fault_at, next_of, rest_of, byte_len, begins_bom, bom_len, without_bom, pieces}
+use Rattle.css_text.specs.Ahead.{Ahead, ahead, behind, unclosed_at, next_of, rest_of, byte_len, begins_bom, bom_len, without_bom, pieces}
 use Rattle.css_text.proofs.PieceKinds.{cut_kinds}
 use Rattle.css_text.proofs.Slices.{IsSlice, from_boundary, slice_chars, byte_len_some}
 use Rattle.css_text.proofs.Reader.{Next, at_next, at_end, at_fault}
 use Rattle.css_text.proofs.Start.{start_view}
 use Rattle.css_text.proofs.ReaderStart.{at_start}
 use Rattle.css_tree.proofs.Reader.{outcome}
-use Rattle.css_tree.specs.Pieces.{Piece, shape, shape_of, located, pieces_of, end_of, last_end}
+use Rattle.css_tree.specs.Pieces.{Lexeme, shape, shape_of, located, pieces_of, end_of, last_end}
 use Rattle.css_tree.specs.Fault.{Fault, lexical_at, lexical_fault}
 use Rattle.css_tree.proofs.Formed.{FormedBy, AllFormed, cut-formed}
 use Rattle.css_parse.specs.Machine.{Machine, answer, faulty, start, IsReady}
@@ -47,7 +47,7 @@ at_begin bs lexer m u e h =
     })
 
 -- the piece with its characters
-abbrev pub seen : List ℕ → LexPiece → Piece
+abbrev pub seen : List ℕ → LexPiece → Lexeme
 seen bs p = record { kind = p.kind; at = p.span.start; text = chars (take (p.span.end - p.span.start) (drop p.span.start bs)) }
 
 -- what is known of the piece that comes next
@@ -65,13 +65,13 @@ pub record Taken (s bs : List ℕ) (lexer : Ahead) (m : Machine) (at : ℕ) (p :
   pub within : end_of (seen bs p) ≤ length bs
   pub ends : end_of (seen bs p) ≡ p.span.end
   pub on : (n : Machine) → IsReady n → IsSmall n (end_of (seen bs p)) → Advances m (seen bs p) n → Reading s bs (record { pieces = rest_of lexer.pieces; fault = lexer.fault }) n (end_of (seen bs p))
-  pub stop : (f : Fault) → ((ps : List Piece) (lex : Option Fault) → answer m (seen bs p ∷ ps) lex ≡ faulty f) → whole s ≡ faulty f
+  pub stop : (f : Fault) → ((ps : List Lexeme) (lex : Option Fault) → answer m (seen bs p ∷ ps) lex ≡ faulty f) → whole s ≡ faulty f
 
 taken_by : (s bs : List ℕ) (lexer : Ahead) (m : Machine) (at : ℕ) (p : LexPiece) (h : Reading s bs lexer m at) → IsUtf8 bs → Next bs at h.tokens h.rest h.fault lexer p → Taken s bs lexer m at p
 unfolding shape
 taken_by s bs lexer m at p h u x =
     let t = x.token in
-    let q : Piece = record { kind = t.kind; at = at; text = t.text } in
+    let q : Lexeme = record { kind = t.kind; at = at; text = t.text } in
     let text : chars (take (p.span.end - p.span.start) (drop p.span.start bs)) ≡ t.text = slice_chars bs p.span.start p.span.end t.text u x.slice in
     let is : seen bs p ≡ q = ap (λ z. record { kind = z.kind; at = z.span.start; text = chars (take (p.span.end - p.span.start) (drop p.span.start bs)) }) x.is ∙ ap (λ z. record { kind = t.kind; at = at; text = z }) text in
     let k = subst AreOfKinds x.are h.kinds in
@@ -131,7 +131,7 @@ lex-answer : (m : Machine) (f : Fault) → answer m [] (Some f) ≡ faulty f
 unfolding answer outcome
 lex-answer m f = refl
 
-found-is : (at : ℕ) (u : Unclosed) → lexical_at at (Some u) ≡ Some (found_of (fault_at at u))
+found-is : (at : ℕ) (u : Unclosed) → lexical_at at (Some u) ≡ Some (found_of (unclosed_at at u))
 found-is at string = refl
 found-is at comment = refl
 found-is at url = refl
@@ -140,7 +140,7 @@ pub record Broken (s bs : List ℕ) (x : LexFault) : Type 0 where
   pub within : (found_of x).at ≤ length bs
   pub answers : whole s ≡ faulty (found_of x)
 
-found-at : (at : ℕ) (u : Unclosed) → (found_of (fault_at at u)).at ≡ at
+found-at : (at : ℕ) (u : Unclosed) → (found_of (unclosed_at at u)).at ≡ at
 found-at at string = refl
 found-at at comment = refl
 found-at at url = refl
@@ -151,7 +151,7 @@ broken s bs lexer m at x h e =
     record {
       within = subst (λ z. (found_of z).at ≤ length bs) (sym k.3) (subst (λ z. z ≤ length bs) (sym (found-at at k.0)) h.is_at.here.fits);
       answers = h.same ∙ (ap (λ z. answer m (located at z) (lexical_at (last_end at (located at z)) h.fault)) k.1
-          ∙ (ap (λ z. answer m [] (lexical_at at z)) k.2 ∙ (ap (λ z. answer m [] z) (found-is at k.0) ∙ (lex-answer m (found_of (fault_at at k.0)) ∙ ap (λ z. faulty (found_of z)) (sym k.3)))));
+          ∙ (ap (λ z. answer m [] (lexical_at at z)) k.2 ∙ (ap (λ z. answer m [] z) (found-is at k.0) ∙ (lex-answer m (found_of (unclosed_at at k.0)) ∙ ap (λ z. faulty (found_of z)) (sym k.3)))));
     }
 
 pub read_end : (r : Result (List NodeAt) (Stop Fault)) (s : List ℕ) (m : Machine) → whole s ≡ answer m [] None → IsEnd r m → IsRead r s
@@ -159,7 +159,7 @@ read_end (Ok v) s m e h = e ∙ h
 read_end (Err (StopOf.Fault f)) s m e h = e ∙ h
 read_end (Err (StopOf.Memory x)) s m e h = tt
 
-pub read_stop : (x : Stop Fault) (s : List ℕ) (m : Machine) (p : Piece) → ((f : Fault) → ((ps : List Piece) (lex : Option Fault) → answer m (p ∷ ps) lex ≡ faulty f) → whole s ≡ faulty f) → IsStop x m p → IsRead (Err x) s
+pub read_stop : (x : Stop Fault) (s : List ℕ) (m : Machine) (p : Lexeme) → ((f : Fault) → ((ps : List Lexeme) (lex : Option Fault) → answer m (p ∷ ps) lex ≡ faulty f) → whole s ≡ faulty f) → IsStop x m p → IsRead (Err x) s
 read_stop (StopOf.Fault f) s m p e h = e f h
 read_stop (StopOf.Memory x) s m p e h = tt
 

@@ -9,8 +9,8 @@ use Rattle.css_text.proofs.ReaderStart.{at_start}
 use Rattle.css_tree.specs.declared.node.Kind.TheVariants as K
 use Rattle.css_tree.specs.declared.node.Block.{Block}
 use Rattle.css_tree.specs.Parts.{kind_of, block_of}
-use Rattle.css_tree.specs.Pieces.{Piece, Shape, shape, located, pieces_of, join, end_of, last_end}
-use Rattle.css_tree.specs.Fields.{first_at}
+use Rattle.css_tree.specs.Pieces.{Lexeme, Shape, shape, located, pieces_of, join, end_of, last_end}
+use Rattle.css_tree.specs.Fields.{begins_at}
 use Rattle.css_tree.specs.Laws.{HasTwoBytes, EachHasTwoBytes}
 use Rattle.css_tree.specs.Nodes.{Nodes, none, comment, leaf, block, line, ends_with_semicolon}
 use Rattle.css_tree.proofs.Split.{hack}
@@ -39,19 +39,19 @@ all-at P (e ∷ es) (suc n) d l h = all-at P es n d (omega arith) h.1
 abbrev pub IsNoRoot : NodeAt → Type 0
 IsNoRoot e = kind_of e.text ≢ K.Root
 
-leaf-kind : (s : Shape) (b : List Piece) (w : Piece) (r : List Piece) → kind_of (leaf_text_by s b w r) ≢ K.Root
+leaf-kind : (s : Shape) (b : List Lexeme) (w : Lexeme) (r : List Lexeme) → kind_of (leaf_text_by s b w r) ≢ K.Root
 leaf-kind Shape.at_name b w r e = cc
 leaf-kind _ b w r e = cc
 
-leaf-no_root : (b r : List Piece) → kind_of (leaf_text b r) ≢ K.Root
+leaf-no_root : (b r : List Lexeme) → kind_of (leaf_text b r) ≢ K.Root
 leaf-no_root b [] e = cc
 leaf-no_root b (w ∷ r) e = leaf-kind (shape w) b w r e
 
-block-kind : (s : Shape) (b : List Piece) (w : Piece) (r : List Piece) (x y : Block) → kind_of (with_block (block_text_by s b w r x) y) ≢ K.Root
+block-kind : (s : Shape) (b : List Lexeme) (w : Lexeme) (r : List Lexeme) (x y : Block) → kind_of (with_block (block_text_by s b w r x) y) ≢ K.Root
 block-kind Shape.at_name b w r x y e = cc
 block-kind _ b w r x y e = cc
 
-block-no_root : (b r : List Piece) (x y : Block) → kind_of (with_block (block_text b r x) y) ≢ K.Root
+block-no_root : (b r : List Lexeme) (x y : Block) → kind_of (with_block (block_text b r x) y) ≢ K.Root
 block-no_root b [] x y e = cc
 block-no_root b (w ∷ r) x y e = block-kind (shape w) b w r x y e
 
@@ -64,11 +64,11 @@ no_roots (block b r o k a c f) j n = (block-no_root (gap_of (join b)) r open_end
 
 -- Containers.
 
-block-some : (s : Shape) (b : List Piece) (w : Piece) (r : List Piece) (x y : Block) → IsSome (block_of (with_block (block_text_by s b w r x) y))
+block-some : (s : Shape) (b : List Lexeme) (w : Lexeme) (r : List Lexeme) (x y : Block) → IsSome (block_of (with_block (block_text_by s b w r x) y))
 block-some Shape.at_name b w r x y = refl
 block-some _ b w r x y = refl
 
-block-container : (b r : List Piece) (x y : Block) → IsSome (block_of (with_block (block_text b r x) y))
+block-container : (b r : List Lexeme) (x y : Block) → IsSome (block_of (with_block (block_text b r x) y))
 block-container b [] x y = refl
 block-container b (w ∷ r) x y = block-some (shape w) b w r x y
 
@@ -128,12 +128,12 @@ in_containers f root d h = contained f 0 1 (root ∷ flat 0 1 f) (root ∷ []) [
 -- Spans.
 
 -- a text may be cut at both ends of the piece, and behind its hack
-pub record Sits (bs : List ℕ) (p : Piece) : Type 0 where
+pub record Sits (bs : List ℕ) (p : Lexeme) : Type 0 where
   pub low : IsCharBoundary bs p.at
   pub high : IsCharBoundary bs (end_of p)
   pub hacked : IsCharBoundary bs (p.at + length (hack p.text))
 
-abbrev pub AllSit : List ℕ → List Piece → Type 0
+abbrev pub AllSit : List ℕ → List Lexeme → Type 0
 AllSit bs [] = Unit {0}
 AllSit bs (p ∷ ps) = Sits bs p × AllSit bs ps
 
@@ -158,19 +158,19 @@ pieces-sit bs u =
     let b = at_start bs (pieces (chars bs)) u refl in
     (located-sit bs (cut (without_bom (chars bs))).tokens (bom_len (chars bs)) b.rest b.at.here, from_boundary bs (bom_len (chars bs)) _ b.at.here)
 
-pub sit-front : (bs : List ℕ) (xs ys : List Piece) → AllSit bs (xs ++ ys) → AllSit bs xs
+pub sit-front : (bs : List ℕ) (xs ys : List Lexeme) → AllSit bs (xs ++ ys) → AllSit bs xs
 sit-front bs [] ys h = tt
 sit-front bs (x ∷ xs) ys h = (h.0, sit-front bs xs ys h.1)
 
-sit-back : (bs : List ℕ) (xs ys : List Piece) → AllSit bs (xs ++ ys) → AllSit bs ys
+sit-back : (bs : List ℕ) (xs ys : List Lexeme) → AllSit bs (xs ++ ys) → AllSit bs ys
 sit-back bs [] ys h = h
 sit-back bs (x ∷ xs) ys h = sit-back bs xs ys h.1
 
-pub last-boundary : (bs : List ℕ) (ps : List Piece) (at : ℕ) → IsCharBoundary bs at → AllSit bs ps → IsCharBoundary bs (last_end at ps)
+pub last-boundary : (bs : List ℕ) (ps : List Lexeme) (at : ℕ) → IsCharBoundary bs at → AllSit bs ps → IsCharBoundary bs (last_end at ps)
 last-boundary bs [] at b h = b
 last-boundary bs (p ∷ ps) at b h = last-boundary bs ps (end_of p) h.0.high h.1
 
-hack-boundary : (bs : List ℕ) (s : Shape) (w : Piece) → Sits bs w → IsCharBoundary bs (w.at + length (hack_of_shape s w.text))
+hack-boundary : (bs : List ℕ) (s : Shape) (w : Lexeme) → Sits bs w → IsCharBoundary bs (w.at + length (hack_of_shape s w.text))
 hack-boundary bs Shape.at_name w h = subst (IsCharBoundary bs) (sym (add-zero w.at)) h.low
 hack-boundary bs _ w h = h.hacked
 
@@ -180,19 +180,19 @@ pub record IsCutAt (bs : List ℕ) (span : Span) : Type 0 where
   pub low : IsCharBoundary bs span.start
   pub high : IsCharBoundary bs span.end
 
-abbrev LeafTwo : List Piece → Type 0
+abbrev LeafTwo : List Lexeme → Type 0
 LeafTwo [] = Unit {0}
 LeafTwo (w ∷ r) = leaf_start w + 2 ≤ last_end (end_of w) r
 
-leaf-two-of : (r : List Piece) → HasTwoBytes (leaf_span r) → LeafTwo r
+leaf-two-of : (r : List Lexeme) → HasTwoBytes (leaf_span r) → LeafTwo r
 leaf-two-of [] h = tt
 leaf-two-of (w ∷ r) h = h
 
-leaf-cut : (bs : List ℕ) (r : List Piece) → IsCharBoundary bs 0 → AllSit bs r → LeafTwo r → IsCutAt bs (leaf_bytes r)
+leaf-cut : (bs : List ℕ) (r : List Lexeme) → IsCharBoundary bs 0 → AllSit bs r → LeafTwo r → IsCutAt bs (leaf_bytes r)
 leaf-cut bs [] z h t = record { order = omega arith; low = z; high = z }
 leaf-cut bs (w ∷ r) z h t = record { order = omega (arith, t); low = hack-boundary bs (shape w) w h.0; high = last-boundary bs r (end_of w) h.0.high h.1 }
 
-first-boundary : (bs : List ℕ) (r : List Piece) (o : Piece) → AllSit bs r → Sits bs o → IsCharBoundary bs (first_at r o)
+first-boundary : (bs : List ℕ) (r : List Lexeme) (o : Lexeme) → AllSit bs r → Sits bs o → IsCharBoundary bs (begins_at r o)
 first-boundary bs [] o h k = k.low
 first-boundary bs (w ∷ r) o h k = h.0.low
 

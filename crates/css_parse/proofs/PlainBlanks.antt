@@ -8,7 +8,7 @@ use Rattle.css_text.specs.declared.lexer.PieceKind.TheVariants as K
 use Rattle.css_text.specs.Characters.{is_space}
 use Rattle.css_text.specs.Forms.{begins_url}
 use Rattle.css_tree.specs.Classes.{Each, BeginsWithout, EndsWithout}
-use Rattle.css_tree.specs.Pieces.{Piece, Shape, shape, single_shape, is_blank, is_blank_shape}
+use Rattle.css_tree.specs.Pieces.{Lexeme, Shape, shape, single_shape, is_blank, is_blank_shape}
 use Rattle.css_parse.specs.Machine.{Machine}
 use Rattle.css_parse.specs.Plain.{is_name, is_calm, brackets, OpensNoUrl}
 use Rattle.css_parse.proofs.PlainPieces.{is_unit, is_sign, Stops, unit-low, sign-low, space-low, calm-low, all-low, unit-space, sign-space, name-unit, IsMark, calm-sign, word-end, units-brackets, spaces-brackets, no-url, no-url-back, each-as, word_first, space_first, sign_first}
@@ -18,16 +18,16 @@ use Rattle.css_parse.proofs.PlainRuns.{in_run, with_run, Run, run-none, IsKept, 
 
 -- White space behind a statement's first piece.
 
-pub record Blanks (s bs : List ℕ) (m : Machine) (r : List Piece) (at : ℕ) (q rest : List ℕ) : Type 0 where
-  pub pieces : List Piece
+pub record Blanks (s bs : List ℕ) (m : Machine) (r : List Lexeme) (at : ℕ) (q rest : List ℕ) : Type 0 where
+  pub pieces : List Lexeme
   pub next : At s bs (with_run m (r ++ pieces)) (at + length q) rest
   pub run : Run bs at (at + length q) pieces
   pub blank : Each is_blank pieces
 
-fits-some : (r : List Piece) (q : Piece) → 0 < length r → Fits r q
+fits-some : (r : List Lexeme) (q : Lexeme) → 0 < length r → Fits r q
 fits-some r q l = λ e. absurd (omega (arith, l, ap length e))
 
-pub blanks : (s bs : List ℕ) (m : Machine) (r : List Piece) (at : ℕ) (q rest : List ℕ) → IsUtf8 bs → 0 < length r → Each is_space q → BeginsWithout is_space rest → At s bs (with_run m r) at (q ++ rest) → Blanks s bs m r at q rest
+pub blanks : (s bs : List ℕ) (m : Machine) (r : List Lexeme) (at : ℕ) (q rest : List ℕ) → IsUtf8 bs → 0 < length r → Each is_space q → BeginsWithout is_space rest → At s bs (with_run m r) at (q ++ rest) → Blanks s bs m r at q rest
 unfolding shape is_blank
 blanks s bs m r at [] rest u l h b x = record {
   pieces = [];
@@ -41,8 +41,8 @@ blanks s bs m r at (c ∷ t) rest u l h b x =
 
 -- There stand calm characters that end without white space, with no bracket open and no `url(`.
 
-pub record Calm (s bs : List ℕ) (m : Machine) (r : List Piece) (at : ℕ) (q rest : List ℕ) : Type 0 where
-  pub awaited : List Piece
+pub record Calm (s bs : List ℕ) (m : Machine) (r : List Lexeme) (at : ℕ) (q rest : List ℕ) : Type 0 where
+  pub awaited : List Lexeme
   pub round : AreRound awaited
   pub class : Each is_calm q
   pub ends : EndsWithout is_space q
@@ -52,7 +52,7 @@ pub record Calm (s bs : List ℕ) (m : Machine) (r : List Piece) (at : ℕ) (q r
 
 -- Their first piece, and what stands behind it.
 
-pub record Part (s bs : List ℕ) (m : Machine) (r : List Piece) (at c : ℕ) (q rest : List ℕ) : Type 0 where
+pub record Part (s bs : List ℕ) (m : Machine) (r : List Lexeme) (at c : ℕ) (q rest : List ℕ) : Type 0 where
   pub kind : PieceKind
   pub front : List ℕ
   pub back : List ℕ
@@ -75,9 +75,9 @@ SignRound c = (is_blank_shape (single_shape (c ∷ [])) ≡ false) × (single_sh
 by_mark : (P : ℕ → Type 0) → P 58 → P 44 → (c : ℕ) → IsMark c → P c
 by_mark P x y c e = elim e [ inl h ↦ subst P (sym h) x | inr h ↦ subst P (sym h) y ]
 
-module _ (s bs : List ℕ) (m : Machine) (r : List Piece) (at : ℕ) (rest : List ℕ) (u : IsUtf8 bs) (k : Stops rest) where
+module _ (s bs : List ℕ) (m : Machine) (r : List Lexeme) (at : ℕ) (rest : List ℕ) (u : IsUtf8 bs) (k : Stops rest) where
   -- what stands behind the first piece
-  calm : (c : ℕ) (q front back : List ℕ) (x : Calm s bs m r at (c ∷ q) rest) (p : Piece) (aw : List Piece) → q ≡ front ++ back → brackets (length aw) back ≡ Some 0 → AreRound aw
+  calm : (c : ℕ) (q front back : List ℕ) (x : Calm s bs m r at (c ∷ q) rest) (p : Lexeme) (aw : List Lexeme) → q ≡ front ++ back → brackets (length aw) back ≡ Some 0 → AreRound aw
       → Kept s bs m r aw at p (c ∷ front) (back ++ rest) → Calm s bs m (r ++ p ∷ []) (at + length (c ∷ front)) back rest
   calm c q front back x p aw e b a y = record {
     awaited = aw;
@@ -166,7 +166,7 @@ module _ (s bs : List ℕ) (m : Machine) (r : List Piece) (at : ℕ) (rest : Lis
       }
 
   -- a round bracket, behind which these are awaited
-  bracket : (c : ℕ) (q : List ℕ) (aw : List Piece) → is_sign c ≡ true → SignRound c → (x : Calm s bs m r at (c ∷ q) rest) → brackets (length aw) q ≡ Some 0 → AreRound aw
+  bracket : (c : ℕ) (q : List ℕ) (aw : List Lexeme) → is_sign c ≡ true → SignRound c → (x : Calm s bs m r at (c ∷ q) rest) → brackets (length aw) q ≡ Some 0 → AreRound aw
       → (Idle r x.awaited → Stays r x.awaited (piece_of K.Single at (c ∷ [])) aw) → Part s bs m r at c q rest
   unfolding shape is_blank
   bracket c q aw t y x b a g =
@@ -187,15 +187,15 @@ module _ (s bs : List ℕ) (m : Machine) (r : List Piece) (at : ℕ) (rest : Lis
   opening : (q : List ℕ) → Calm s bs m r at (40 ∷ q) rest → Part s bs m r at 40 q rest
   unfolding shape
   opening q x =
-      let p : Piece = piece_of K.Single at (40 ∷ []) in
+      let p : Lexeme = piece_of K.Single at (40 ∷ []) in
       bracket 40 q (p ∷ x.awaited) refl (refl, (λ e. cc)) x x.closed (refl, x.round) (λ i. turn-open r x.awaited p i refl)
 
   -- what a `)` closes
-  answered : (q : List ℕ) (x : Calm s bs m r at (41 ∷ q) rest) (aw : List Piece) → AreRound aw → brackets (length aw) (41 ∷ q) ≡ Some 0 → x.awaited ≡ aw → Part s bs m r at 41 q rest
+  answered : (q : List ℕ) (x : Calm s bs m r at (41 ∷ q) rest) (aw : List Lexeme) → AreRound aw → brackets (length aw) (41 ∷ q) ≡ Some 0 → x.awaited ≡ aw → Part s bs m r at 41 q rest
   unfolding shape
   answered q x [] a b e = absurd (cc)
   answered q x (p ∷ aw) a b e =
-      let c : Piece = piece_of K.Single at (41 ∷ []) in
+      let c : Lexeme = piece_of K.Single at (41 ∷ []) in
       bracket 41 q aw refl (refl, (λ e. cc)) x b a.1 (subst (λ z. Idle r z → Stays r z c aw) (sym e) (λ i. turn-close r p aw c i a.0 refl))
 
   pub part : (c : ℕ) (q : List ℕ) → (r ≡ [] → is_space c ≡ false) → Calm s bs m r at (c ∷ q) rest → Part s bs m r at c q rest

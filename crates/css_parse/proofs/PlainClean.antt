@@ -15,7 +15,7 @@ use Rattle.css_text.proofs.Join.{cut_front}
 use Rattle.css_tree.specs.Classes.{Each}
 use Rattle.css_tree.specs.Clean.{kept, without_comments, clean_of}
 use Rattle.css_tree.specs.Mark.{mark_at, is_text}
-use Rattle.css_tree.specs.Pieces.{Piece, join}
+use Rattle.css_tree.specs.Pieces.{Lexeme, join}
 use Rattle.css_tree.proofs.Trim.{each-append}
 use Rattle.css_tree.proofs.Printed.{join-cons, join-nil}
 use Rattle.css_parse.specs.Plain.{is_name, is_flat, is_calm, AreCalm}
@@ -80,7 +80,7 @@ clean-calm s e =
     let same : without_comments ts ++ drop (length (joined ts)) w ≡ w = ap (λ x. x ++ drop (length (joined ts)) w) (pieces-calm ts (cut_kinds w) j) ∙ ap (λ x. joined ts ++ x) rest ∙ sym f.1 in
     ap (λ x. cond (begins_bom s) (take 1 s) [] ++ x) same ∙ mark-by s (begins_bom s)
 
-pub joined-calm : (ps : List Piece) → AreCalm ps → Each is_calm (join ps)
+pub joined-calm : (ps : List Lexeme) → AreCalm ps → Each is_calm (join ps)
 joined-calm [] h = subst (Each is_calm) (sym join-nil) tt
 joined-calm (p ∷ ps) h = subst (Each is_calm) (sym (join-cons p ps)) (each-append is_calm p.text (join ps) h.0 (joined-calm ps h.1))
 

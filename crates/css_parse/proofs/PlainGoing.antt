@@ -4,7 +4,7 @@ use Rattle.std.specs.Str.{chars, IsUtf8, IsCharBoundary}
 use Rattle.std.proofs.lemmas.List.{length-reverse}
 use Rattle.css_text.specs.Ahead.{ahead}
 use Rattle.css_text.proofs.Slices.{from_boundary}
-use Rattle.css_tree.specs.Pieces.{Piece, end_of, last_end}
+use Rattle.css_tree.specs.Pieces.{Lexeme, end_of, last_end}
 use Rattle.css_parse.specs.declared.parser.Parser.{Parser}
 use Rattle.css_parse.specs.declared.plain.PlainLeaf.{PlainLeaf}
 use Rattle.css_parse.specs.declared.plain.PlainHead.{PlainHead}
@@ -26,7 +26,7 @@ pub record FoundLeaf (bs : List ℕ) (at : ℕ) (p : Parser) (x : PlainLeaf) : T
   pub behind : IsCharBoundary (sheet p.texts) (x.semicolon + 1)
   pub within : x.semicolon + 1 ≤ length bs
   pub more : at < x.semicolon + 1
-  pub on : (n : Parser) → ((run : List Piece) → IsLeafRun (sheet p.texts) p.gap.end x run → model n ≡ leaf_next (model p) run) → IsUpTo (sheet p.texts) n (x.semicolon + 1) → Going (chars bs) bs (x.semicolon + 1) n
+  pub on : (n : Parser) → ((run : List Lexeme) → IsLeafRun (sheet p.texts) p.gap.end x run → model n ≡ leaf_next (model p) run) → IsUpTo (sheet p.texts) n (x.semicolon + 1) → Going (chars bs) bs (x.semicolon + 1) n
 
 pub found-leaf : (bs : List ℕ) (at : ℕ) (p : Parser) (x : PlainLeaf) → IsUtf8 bs → Going (chars bs) bs at p → p.run ≡ [] → IsPlainLeaf bs at x → FoundLeaf bs at p x
 found-leaf bs at p x u g idle h =
@@ -53,7 +53,7 @@ pub record FoundHead (bs : List ℕ) (at : ℕ) (p : Parser) (x : PlainHead) : T
   pub behind : IsCharBoundary (sheet p.texts) (x.brace + 1)
   pub within : x.brace + 1 ≤ length bs
   pub more : at < x.brace + 1
-  pub on : (n : Parser) → ((run : List Piece) → IsHeadRun (sheet p.texts) p.gap.end x run → model n ≡ head_next (model p) run (brace x.brace)) → IsUpTo (sheet p.texts) n (x.brace + 1) → Going (chars bs) bs (x.brace + 1) n
+  pub on : (n : Parser) → ((run : List Lexeme) → IsHeadRun (sheet p.texts) p.gap.end x run → model n ≡ head_next (model p) run (brace x.brace)) → IsUpTo (sheet p.texts) n (x.brace + 1) → Going (chars bs) bs (x.brace + 1) n
 
 one : (n : ℕ) → n + 1 - n ≡ 1
 one n = omega arith

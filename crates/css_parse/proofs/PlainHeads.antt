@@ -7,7 +7,7 @@ use Rattle.css_text.specs.Ahead.{ahead}
 use Rattle.css_text.specs.Characters.{is_space}
 use Rattle.css_tree.specs.Classes.{Each, BeginsWithout}
 use Rattle.css_tree.specs.Fault.{deep}
-use Rattle.css_tree.specs.Pieces.{Piece, Shape, shape, end_of}
+use Rattle.css_tree.specs.Pieces.{Lexeme, Shape, shape, end_of}
 use Rattle.css_tree.specs.Turn.{turn, opens, is_custom}
 use Rattle.css_parse.specs.declared.plain.PlainHead.{PlainHead}
 use Rattle.css_parse.specs.declared.turn.Frame.{Frame}
@@ -25,12 +25,12 @@ use Rattle.css_parse.proofs.PlainReadings.{at-start, at-reading, run-at}
 
 -- Behind a selector.
 
-no-custom : (ps qs : List Piece) → 0 < length ps → NoDashes ps → is_custom (ps ++ qs) ≡ false
+no-custom : (ps qs : List Lexeme) → 0 < length ps → NoDashes ps → is_custom (ps ++ qs) ≡ false
 unfolding is_custom
 no-custom [] qs l h = absurd (omega arith)
 no-custom (p ∷ ps) qs l h = and_right _ _ (and_left _ _ h)
 
-turn-opens : (r : List Piece) (q : Piece) → 0 < length r → is_custom r ≡ false → shape q ≡ Shape.brace_open → turn r [] q ≡ opens
+turn-opens : (r : List Lexeme) (q : Lexeme) → 0 < length r → is_custom r ≡ false → shape q ≡ Shape.brace_open → turn r [] q ≡ opens
 unfolding turn
 turn-opens [] q l e f = absurd (omega arith)
 turn-opens (x ∷ r) q l e f = rw (f, e) refl
@@ -39,11 +39,11 @@ length-opened : (fs : List Frame) → length (map opening_of fs) ≡ length fs
 length-opened [] = refl
 length-opened (f ∷ fs) = ap suc (length-opened fs)
 
-not-deep : (fs : List Frame) (q : Piece) → length fs < 200 → deep (map opening_of fs) q ≡ None
+not-deep : (fs : List Frame) (q : Lexeme) → length fs < 200 → deep (map opening_of fs) q ≡ None
 not-deep fs q l = rw (lt-leb 200 (length (map opening_of fs)) (omega (arith, length-opened fs))) refl
 
 -- the `{`
-head-end : (s bs : List ℕ) (m : Machine) (r : List Piece) (at : ℕ) (rest : List ℕ) → IsUtf8 bs → m.awaited ≡ [] → 0 < length r → is_custom r ≡ false → length m.frames < 200
+head-end : (s bs : List ℕ) (m : Machine) (r : List Lexeme) (at : ℕ) (rest : List ℕ) → IsUtf8 bs → m.awaited ≡ [] → 0 < length r → is_custom r ≡ false → length m.frames < 200
     → At s bs (with_run m r) at (123 ∷ rest) → Stepped s bs (head_next m r (brace at)) at (brace at) (123 ∷ []) rest
 unfolding shape
 head-end s bs m r at rest u a l c d x =
@@ -66,7 +66,7 @@ first-dash (c ∷ t) h = (or_parts _ _ (or_parts _ _ h).0).1
 -- A head by its parts.
 
 pub record HeadReading (s bs : List ℕ) (m : Machine) (at : ℕ) (p : PlainHead) : Type 0 where
-  pub run : List Piece
+  pub run : List Lexeme
   pub is_run : IsHeadRun bs at p run
   pub reading : Reading s bs (ahead (p.brace + 1) (drop (p.brace + 1) bs)) (head_next m run (brace p.brace)) (p.brace + 1)
   pub end : end_of (brace p.brace) ≡ p.brace + 1
@@ -86,7 +86,7 @@ module _ (s bs : List ℕ) (m : Machine) (at : ℕ) (p : PlainHead) (u : IsUtf8 
   unfolding behind is_space
   k = blanks s bs m g.pieces p.end h.between (123 ∷ h.rest) u some h.between_class refl (subst (λ n. At s bs (with_run m g.pieces) n behind) (sym h.end_at) g.next)
 
-  run : List Piece
+  run : List Lexeme
   run = g.pieces ++ k.pieces
 
   last : Stepped s bs (head_next m run (brace p.brace)) p.brace (brace p.brace) (123 ∷ []) h.rest

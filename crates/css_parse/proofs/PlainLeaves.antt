@@ -5,7 +5,7 @@ use Rattle.std.proofs.lemmas.List.{append-nil}
 use Rattle.css_text.specs.declared.lexer.PieceKind.TheVariants as K
 use Rattle.css_text.specs.Characters.{is_space, is_quote, is_single, ends_word}
 use Rattle.css_tree.specs.Classes.{Each, BeginsWithout}
-use Rattle.css_tree.specs.Pieces.{Piece, Shape, shape, is_blank}
+use Rattle.css_tree.specs.Pieces.{Lexeme, Shape, shape, is_blank}
 use Rattle.css_parse.specs.Machine.{Machine}
 use Rattle.css_parse.specs.Plain.{is_name, mark_text, IsMarkPieces}
 use Rattle.css_parse.proofs.PlainPieces.{is_unit, Stops, stops-end, unit-low, all-low, name-unit, no-url, units-no-url, each-as, word_first, sign_first}
@@ -14,14 +14,14 @@ use Rattle.css_parse.proofs.PlainRuns.{with_run, Run, run-none, run-append, kept
 use Rattle.css_parse.proofs.PlainBlanks.{blanks}
 
 -- A word.
-pub record AWord (s bs : List ℕ) (m : Machine) (r : List Piece) (at : ℕ) (t rest : List ℕ) : Type 0 where
-  pub word : Piece
+pub record AWord (s bs : List ℕ) (m : Machine) (r : List Lexeme) (at : ℕ) (t rest : List ℕ) : Type 0 where
+  pub word : Lexeme
   pub next : At s bs (with_run m (r ++ word ∷ [])) (at + length t) rest
   pub run : Run bs at (at + length t) (word ∷ [])
   pub is_word : shape word ≡ Shape.word
   pub text : word.text ≡ t
 
-pub a-word : (s bs : List ℕ) (m : Machine) (r : List Piece) (at : ℕ) (t rest : List ℕ) → IsUtf8 bs → 0 < length t → Each is_unit t → Stops rest → At s bs (with_run m r) at (t ++ rest) → AWord s bs m r at t rest
+pub a-word : (s bs : List ℕ) (m : Machine) (r : List Lexeme) (at : ℕ) (t rest : List ℕ) → IsUtf8 bs → 0 < length t → Each is_unit t → Stops rest → At s bs (with_run m r) at (t ++ rest) → AWord s bs m r at t rest
 unfolding shape is_blank
 a-word s bs m r at [] rest u l h k x = absurd (omega arith)
 a-word s bs m r at (c ∷ t) rest u l h k x =
@@ -32,9 +32,9 @@ a-word s bs m r at (c ∷ t) rest u l h k x =
 
 -- A name, its colon, and the white space behind that.
 pub record Front (s bs : List ℕ) (m : Machine) (at : ℕ) (name back rest : List ℕ) : Type 0 where
-  pub word : Piece
-  pub colon : Piece
-  pub spaces : List Piece
+  pub word : Lexeme
+  pub colon : Lexeme
+  pub spaces : List Lexeme
   pub next : At s bs (with_run m (word ∷ colon ∷ spaces)) (at + length name + 1 + length back) rest
   pub word_run : Run bs at (at + length name) (word ∷ [])
   pub colon_run : Run bs (at + length name) (at + length name + 1 + length back) (colon ∷ spaces)
@@ -65,15 +65,15 @@ front s bs m at name back rest u l h b k x =
     }
 
 -- What stands between the value and the `;`.
-pub record Ending (s bs : List ℕ) (m : Machine) (r : List Piece) (at : ℕ) (blank mark rest : List ℕ) : Type 0 where
-  pub spaces : List Piece
-  pub words : List Piece
+pub record Ending (s bs : List ℕ) (m : Machine) (r : List Lexeme) (at : ℕ) (blank mark rest : List ℕ) : Type 0 where
+  pub spaces : List Lexeme
+  pub words : List Lexeme
   pub next : At s bs (with_run m (r ++ (spaces ++ words))) (at + (length blank + length mark)) rest
   pub run : Run bs at (at + (length blank + length mark)) (spaces ++ words)
   pub class : Each is_blank spaces
   pub kind : ((spaces ≡ []) × (words ≡ []) × (length blank + length mark ≡ 0)) ⊎ (IsMarkPieces words × (0 < length blank + length mark))
 
-pub no-ending : (s bs : List ℕ) (m : Machine) (r : List Piece) (at : ℕ) (rest : List ℕ) → At s bs (with_run m r) at rest → Ending s bs m r at [] [] rest
+pub no-ending : (s bs : List ℕ) (m : Machine) (r : List Lexeme) (at : ℕ) (rest : List ℕ) → At s bs (with_run m r) at rest → Ending s bs m r at [] [] rest
 no-ending s bs m r at rest x =
     let e : at ≡ at + (0 + 0) = omega arith in
     record {
@@ -89,7 +89,7 @@ mark-units : Each is_unit mark_text
 unfolding is_name ends_word is_space is_quote is_single
 mark-units = (refl, (refl, (refl, (refl, (refl, (refl, (refl, (refl, (refl, (refl, tt))))))))))
 
-pub marked : (s bs : List ℕ) (m : Machine) (r : List Piece) (at : ℕ) (blank rest : List ℕ) → IsUtf8 bs → 0 < length r → 0 < length blank → Each is_space blank → Stops rest → At s bs (with_run m r) at (blank ++ (mark_text ++ rest)) → Ending s bs m r at blank mark_text rest
+pub marked : (s bs : List ℕ) (m : Machine) (r : List Lexeme) (at : ℕ) (blank rest : List ℕ) → IsUtf8 bs → 0 < length r → 0 < length blank → Each is_space blank → Stops rest → At s bs (with_run m r) at (blank ++ (mark_text ++ rest)) → Ending s bs m r at blank mark_text rest
 unfolding is_space
 marked s bs m r at blank rest u l k h f x =
     let y = blanks s bs m r at blank (mark_text ++ rest) u l h refl x in

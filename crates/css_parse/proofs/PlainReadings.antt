@@ -7,7 +7,7 @@ use Rattle.css_text.specs.Characters.{is_space}
 use Rattle.css_tree.specs.Classes.{Each}
 use Rattle.css_tree.specs.Fault.{unknown}
 use Rattle.css_tree.specs.Fields.{begins_hack}
-use Rattle.css_tree.specs.Pieces.{Piece, Shape, shape}
+use Rattle.css_tree.specs.Pieces.{Lexeme, Shape, shape}
 use Rattle.css_tree.specs.Turn.{turn, ends, is_allowed, colon_next}
 use Rattle.css_parse.specs.declared.plain.PlainLeaf.{PlainLeaf}
 use Rattle.css_parse.specs.Machine.{Machine, IsReady}
@@ -32,25 +32,25 @@ pub at-reading : (s bs : List ℕ) (m : Machine) (at : ℕ) (rest : List ℕ) �
 at-reading s bs m at rest h = subst (λ z. Reading s bs (ahead at z) m at) (sym h.here) h.reading
 
 -- a word with its colon may end
-known : (word colon : Piece) (ps : List Piece) → shape word ≡ Shape.word → shape colon ≡ Shape.colon → unknown (word ∷ colon ∷ ps) ≡ None
+known : (word colon : Lexeme) (ps : List Lexeme) → shape word ≡ Shape.word → shape colon ≡ Shape.colon → unknown (word ∷ colon ∷ ps) ≡ None
 unfolding is_allowed colon_next
 known word colon ps e f = rw (e, f) refl
 
-turn-ends : (x : Piece) (r : List Piece) (q : Piece) → shape q ≡ Shape.semicolon → turn (x ∷ r) [] q ≡ ends
+turn-ends : (x : Lexeme) (r : List Lexeme) (q : Lexeme) → shape q ≡ Shape.semicolon → turn (x ∷ r) [] q ≡ ends
 unfolding turn
 turn-ends x r q e = rw e refl
 
 -- the `;`
-leaf-end : (s bs : List ℕ) (m : Machine) (word colon : Piece) (ps : List Piece) (at : ℕ) (rest : List ℕ) → IsUtf8 bs → m.awaited ≡ [] → shape word ≡ Shape.word → shape colon ≡ Shape.colon
+leaf-end : (s bs : List ℕ) (m : Machine) (word colon : Lexeme) (ps : List Lexeme) (at : ℕ) (rest : List ℕ) → IsUtf8 bs → m.awaited ≡ [] → shape word ≡ Shape.word → shape colon ≡ Shape.colon
     → At s bs (with_run m (word ∷ colon ∷ ps)) at (59 ∷ rest) → At s bs (leaf_next m (word ∷ colon ∷ ps)) (at + 1) rest
 unfolding shape
 leaf-end s bs m word colon ps at rest u a e f x =
-    let r : List Piece = word ∷ colon ∷ ps in
+    let r : List Lexeme = word ∷ colon ∷ ps in
     let y = stepped s bs (with_run m r) at K.Single 59 [] rest u (omega arith, tt) x ends (sign_first at 59 rest refl) (turn-ends word (colon ∷ ps) (piece_of K.Single at (59 ∷ [])) refl) (known word colon ps e f) in
     subst (λ z. At s bs (record (leaf_next m r) { awaited = z }) (at + 1) rest) (sym a) y.next
 
 -- what stands behind the value
-ending : (s bs : List ℕ) (m : Machine) (r : List Piece) (at : ℕ) (blanks mark rest : List ℕ) → IsUtf8 bs → 0 < length r → IsEnding blanks mark → At s bs (with_run m r) at (blanks ++ (mark ++ 59 ∷ rest)) → Ending s bs m r at blanks mark (59 ∷ rest)
+ending : (s bs : List ℕ) (m : Machine) (r : List Lexeme) (at : ℕ) (blanks mark rest : List ℕ) → IsUtf8 bs → 0 < length r → IsEnding blanks mark → At s bs (with_run m r) at (blanks ++ (mark ++ 59 ∷ rest)) → Ending s bs m r at blanks mark (59 ∷ rest)
 unfolding is_space
 ending s bs m r at blanks mark rest u l h =
     let P : List ℕ → List ℕ → Type 0 = λ b k. At s bs (with_run m r) at (b ++ (k ++ 59 ∷ rest)) → Ending s bs m r at b k (59 ∷ rest) in
@@ -75,13 +75,13 @@ no-hack [] h = refl
 no-hack (c ∷ []) h = refl
 no-hack (c ∷ d ∷ t) h = h
 
-pub run-at : (bs : List ℕ) (a b c d : ℕ) (ps : List Piece) → a ≡ b → c ≡ d → Run bs a c ps → Run bs b d ps
+pub run-at : (bs : List ℕ) (a b c d : ℕ) (ps : List Lexeme) → a ≡ b → c ≡ d → Run bs a c ps → Run bs b d ps
 run-at bs a b c d ps e f h = subst (λ n. Run bs n d ps) e (subst (λ n. Run bs a n ps) f h)
 
 -- A declaration by its parts.
 
 pub record LeafReading (s bs : List ℕ) (m : Machine) (at : ℕ) (p : PlainLeaf) : Type 0 where
-  pub run : List Piece
+  pub run : List Lexeme
   pub is_run : IsLeafRun bs at p run
   pub reading : Reading s bs (ahead (p.semicolon + 1) (drop (p.semicolon + 1) bs)) (leaf_next m run) (p.semicolon + 1)
 
@@ -106,7 +106,7 @@ module _ (s bs : List ℕ) (m : Machine) (at : ℕ) (p : PlainLeaf) (u : IsUtf8 
   k = ending s bs m (f.word ∷ f.colon ∷ (f.spaces ++ g.pieces)) p.end h.blanks h.mark h.rest u (omega arith) h.ending
       (subst (λ n. At s bs (with_run m (f.word ∷ f.colon ∷ (f.spaces ++ g.pieces))) n behind) (sym h.end_at) g.next)
 
-  run : List Piece
+  run : List Lexeme
   run = f.word ∷ f.colon ∷ (f.spaces ++ (g.pieces ++ (k.spaces ++ k.words)))
 
   last : At s bs (leaf_next m run) (p.semicolon + 1) h.rest

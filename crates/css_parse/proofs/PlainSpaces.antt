@@ -8,7 +8,7 @@ use Rattle.css_text.specs.Characters.{is_space}
 use Rattle.css_text.specs.Forms.{space_len}
 use Rattle.css_text.proofs.Slices.{IsSlice}
 use Rattle.css_tree.specs.Classes.{Each, BeginsWithout}
-use Rattle.css_tree.specs.Pieces.{Piece, Shape, shape, end_of}
+use Rattle.css_tree.specs.Pieces.{Lexeme, Shape, shape, end_of}
 use Rattle.css_tree.specs.Turn.{turn, gap}
 use Rattle.css_parse.specs.declared.parser.Parser.{Parser}
 use Rattle.css_parse.specs.Going.{Reading, Going}
@@ -23,7 +23,7 @@ use Rattle.css_parse.proofs.PlainSplits.{split}
 use Rattle.css_parse.proofs.PlainSteps.{At, Stepped, stepped, piece_of}
 use Rattle.css_parse.proofs.Standing.{gap as part_gap}
 
-turn-gap : (r aw : List Piece) (q : Piece) → r ≡ [] → shape q ≡ Shape.space → turn r aw q ≡ gap
+turn-gap : (r aw : List Lexeme) (q : Lexeme) → r ≡ [] → shape q ≡ Shape.space → turn r aw q ≡ gap
 unfolding turn
 turn-gap r aw q e f = rw (e, f) refl
 
@@ -36,7 +36,7 @@ spaces-step s bs m at (c ∷ t) rest u e l h b x =
 
 -- the run of white space at a byte, up to where it ends, as a piece of the gap
 record SpacesReading (s bs : List ℕ) (m : Machine) (at end : ℕ) : Type 0 where
-  piece : Piece
+  piece : Lexeme
   begins : piece.at ≡ at
   slice : IsSlice bs piece.at (end_of piece) piece.text
   ends : end_of piece ≡ end
@@ -49,7 +49,7 @@ spaces-reading s bs m at end u x idle e l =
     let k : at + length y.front ≡ end = omega (arith, e, n) in
     let here : At s bs m at (y.front ++ y.back) = record { here = y.all; reading = subst (λ z. Reading s bs (ahead at z) m at) y.all x } in
     let z = spaces-step s bs m at y.front y.back u idle (omega (arith, e, n, l)) y.front_class y.back_begins here in
-    let q : Piece = piece_of K.Space at y.front in
+    let q : Lexeme = piece_of K.Space at y.front in
     record {
       piece = q;
       begins = refl;

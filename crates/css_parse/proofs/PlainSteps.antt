@@ -11,7 +11,7 @@ use Rattle.css_text.proofs.Ahead.{ahead_piece}
 use Rattle.css_text.proofs.AsciiTests.{encodes-low}
 use Rattle.css_text.proofs.Slices.{IsSlice}
 use Rattle.css_text.proofs.Transport.{AllLow, length-bytes}
-use Rattle.css_tree.specs.Pieces.{Piece, end_of}
+use Rattle.css_tree.specs.Pieces.{Lexeme, end_of}
 use Rattle.css_tree.specs.Turn.{Turn, turn}
 use Rattle.css_tree.specs.Fault.{fits_by}
 use Rattle.css_parse.specs.Machine.{Machine, next, opened, answer}
@@ -25,7 +25,7 @@ pub record At (s bs : List ℕ) (m : Machine) (at : ℕ) (rest : List ℕ) : Typ
   pub here : drop at bs ≡ rest
   pub reading : Reading s bs (ahead at rest) m at
 
-abbrev pub piece_of : PieceKind → ℕ → List ℕ → Piece
+abbrev pub piece_of : PieceKind → ℕ → List ℕ → Lexeme
 piece_of kind at text = record { kind = kind; at = at; text = text }
 
 low-ascii : (t : List ℕ) → AllLow t → IsAscii t
@@ -40,7 +40,7 @@ pub low-size : (t : List ℕ) → AllLow t → byte_len t ≡ length t
 low-size t h = sym (length-bytes t) ∙ ap length (encodes-low t h)
 
 -- what the step comes to
-pub record Stepped (s bs : List ℕ) (m : Machine) (at : ℕ) (q : Piece) (t rest : List ℕ) : Type 0 where
+pub record Stepped (s bs : List ℕ) (m : Machine) (at : ℕ) (q : Lexeme) (t rest : List ℕ) : Type 0 where
   pub next : At s bs m (at + length t) rest
   pub slice : IsSlice bs q.at (end_of q) q.text
   pub end : end_of q ≡ at + length t
@@ -75,7 +75,7 @@ module _ (s bs : List ℕ) (m : Machine) (at : ℕ) (kind : PieceKind) (c : ℕ)
   unfolding end
   p = piece kind at end
 
-  q : Piece
+  q : Lexeme
   unfolding text
   q = piece_of kind at text
 

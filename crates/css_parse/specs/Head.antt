@@ -2,9 +2,9 @@
 use Rattle.std.specs.Prelude.{List, [], ◌∷◌, Bool, true, false}
 use Rattle.css_parse.specs.declared.run.Head.{Head}
 use Rattle.css_parse.specs.declared.run.Head.TheVariants.{Blank, Colon, Other}
-use Rattle.css_tree.specs.Pieces.{Piece, Shape, shape}
+use Rattle.css_tree.specs.Pieces.{Lexeme, Shape, shape}
 
-abbrev pub behind : List Piece → List Piece
+abbrev pub behind : List Lexeme → List Lexeme
 behind [] = []
 behind (p ∷ ps) = ps
 
@@ -25,7 +25,7 @@ then_head Blank h = h
 then_head Colon h = Colon
 then_head Other h = Other
 
-unfoldable pub head_of : List Piece → Head
+unfoldable pub head_of : List Lexeme → Head
 head_of [] = Blank
 head_of (p ∷ ps) = then_head (head_by (shape p)) (head_of ps)
 

@@ -6,10 +6,10 @@ use Rattle.css_tree.specs.declared.node.NodeText.TheVariants as N
 use Rattle.node_rows.specs.declared.node_list.NodeAt.{NodeAt}
 use Rattle.node_rows.specs.Ends.{with_block}
 use Rattle.css_tree.specs.Classes.{BeginsWithout}
-use Rattle.css_tree.specs.Pieces.{Piece, shape, is_blank, join, end_of, last_end}
+use Rattle.css_tree.specs.Pieces.{Lexeme, shape, is_blank, join, end_of, last_end}
 use Rattle.css_tree.specs.Turn.{Turn, within, gap, alone, ends, closes, opens}
 use Rattle.css_tree.specs.Fault.{Fault}
-use Rattle.css_tree.specs.Fields.{first_at}
+use Rattle.css_tree.specs.Fields.{begins_at}
 use Rattle.css_tree.specs.Nodes.{Nodes, none, comment, leaf, block, ends_with_semicolon}
 use Rattle.css_tree.proofs.Reader.{Group, last_nodes, Rest, finish, closed, Outcome, fails, ok, outcome}
 use Rattle.css_tree.proofs.TreeOf.{comment_text, leaf_text, block_text, hack_of_shape}
@@ -21,26 +21,26 @@ use Rattle.css_parse.specs.Gaps.{gap_of}
 abbrev pub open_end : Block
 open_end = record { semicolon = false; after = None }
 
-abbrev pub comment_node : ℕ → List ℕ → Piece → NodeAt
+abbrev pub comment_node : ℕ → List ℕ → Lexeme → NodeAt
 comment_node j g p = record { parent = j; text = comment_text (gap_of g) p; span = record { start = p.at; end = end_of p } }
 
 -- where the body of a declaration or at-rule begins
-abbrev pub leaf_start : Piece → ℕ
+abbrev pub leaf_start : Lexeme → ℕ
 leaf_start w = w.at + length (hack_of_shape (shape w) w.text)
 
-abbrev pub leaf_bytes : List Piece → Span
+abbrev pub leaf_bytes : List Lexeme → Span
 leaf_bytes [] = record { start = 0; end = 0 }
 leaf_bytes (w ∷ r) = record { start = leaf_start w; end = last_end (end_of w) r }
 
-abbrev pub leaf_node : ℕ → List ℕ → List Piece → NodeAt
+abbrev pub leaf_node : ℕ → List ℕ → List Lexeme → NodeAt
 leaf_node j g r = record { parent = j; text = leaf_text (gap_of g) r; span = leaf_bytes r }
 
 -- a container before its end is known
-abbrev pub open_node : ℕ → List ℕ → List Piece → Piece → NodeAt
-open_node j g r p = record { parent = j; text = block_text (gap_of g) r open_end; span = record { start = first_at r p; end = end_of p } }
+abbrev pub open_node : ℕ → List ℕ → List Lexeme → Lexeme → NodeAt
+open_node j g r p = record { parent = j; text = block_text (gap_of g) r open_end; span = record { start = begins_at r p; end = end_of p } }
 
 -- with its end: the flag, the text before its `}`, and the `}`
-abbrev pub seal : Bool → List ℕ → Piece → NodeAt → NodeAt
+abbrev pub seal : Bool → List ℕ → Lexeme → NodeAt → NodeAt
 seal s a c x = record { parent = x.parent; text = with_block x.text (record { semicolon = s; after = Some a }); span = record { start = x.span.start; end = end_of c } }
 
 abbrev pub seal_root : Bool → List ℕ → NodeAt → NodeAt
@@ -86,14 +86,14 @@ pub record Machine : Type 0 where
   pub semicolon : Bool
   pub frames : List Frame
   pub gap : List ℕ
-  pub run : List Piece
-  pub awaited : List Piece
+  pub run : List Lexeme
+  pub awaited : List Lexeme
 
 abbrev pub outer_number : List Frame → ℕ
 outer_number [] = 0
 outer_number (f ∷ fs) = f.number
 
-abbrev pub shut_with : Machine → Piece → Group → Machine
+abbrev pub shut_with : Machine → Lexeme → Group → Machine
 shut_with s p q = record {
   nodes = alter s.number (seal (ends_with_semicolon s.semicolon q.nodes) (join q.behind) p) s.nodes ++ flat s.number (length s.nodes) q.nodes;
   number = outer_number s.frames;
@@ -104,7 +104,7 @@ shut_with s p q = record {
   awaited = s.awaited;
 }
 
-abbrev pub next : Machine → Piece → Turn → Machine
+abbrev pub next : Machine → Lexeme → Turn → Machine
 next s p (within aw) = record s { run = s.run ++ p ∷ []; awaited = aw }
 next s p gap = record s { gap = s.gap ++ p.text }
 next s p alone = record s { nodes = s.nodes ++ comment_node s.number s.gap p ∷ []; gap = [] }
@@ -123,7 +123,7 @@ next s p opens = record {
 abbrev pub open_of : Frame → Open
 open_of f = record { number = f.number; semicolon = false }
 
-abbrev pub opened : Machine → List Piece
+abbrev pub opened : Machine → List Lexeme
 opened s = map opening_of s.frames
 
 abbrev pub open_containers : Machine → List Open
@@ -138,7 +138,7 @@ final s (fails f) = faulty f
 final s (ok r) = done (resume s.nodes (open_containers s) r)
 
 -- what this state and these pieces come to
-unfoldable pub answer : Machine → List Piece → Option Fault → Final
+unfoldable pub answer : Machine → List Lexeme → Option Fault → Final
 answer s ps lex = final s (outcome ps lex (opened s) (gap_of s.gap) s.run s.awaited)
 
 abbrev pub AllBelow : ℕ → List Frame → Type 0
@@ -173,7 +173,7 @@ given s =
     }
 
 -- with its end written to the open container
-abbrev pub sealed : Machine → Piece → Machine
+abbrev pub sealed : Machine → Lexeme → Machine
 sealed s p = record {
   nodes = alter s.number (seal s.semicolon s.gap p) s.nodes;
   number = s.number;

@@ -4,7 +4,7 @@ use Rattle.css_text.specs.declared.stop.Stop.{Stop}
 use Rattle.css_text.specs.declared.stop.Stop.TheVariants as E
 use Rattle.node_rows.specs.declared.node_list.NodeAt.{NodeAt}
 use Rattle.css_text.proofs.Slices.{IsSlice}
-use Rattle.css_tree.specs.Pieces.{Piece, end_of, last_end}
+use Rattle.css_tree.specs.Pieces.{Lexeme, end_of, last_end}
 use Rattle.css_tree.specs.Fault.{Fault}
 use Rattle.css_parse.specs.declared.parser.Parser.{Parser}
 use Rattle.css_parse.specs.Machine.{Machine, answer, faulty, done}
@@ -28,7 +28,7 @@ pub record IsUpTo (bytes : List ℕ) (p : Parser) (at : ℕ) : Type 0 where
   pub end : last_end p.gap.end p.run ≡ at
 
 -- the piece stands there directly behind them
-pub record IsNext (bytes : List ℕ) (p : Parser) (q : Piece) : Type 0 where
+pub record IsNext (bytes : List ℕ) (p : Parser) (q : Lexeme) : Type 0 where
   pub up_to : IsUpTo bytes p q.at
   pub slice : IsSlice bytes q.at (end_of q) q.text
 
@@ -37,12 +37,12 @@ abbrev pub IsSmall : Machine → ℕ → Type 0
 IsSmall s at = length s.nodes + length s.run ≤ 1 + at
 
 -- the first state with this piece before the others comes to what the second comes to with those
-abbrev pub Advances : Machine → Piece → Machine → Type 0
-Advances s p u = (ps : List Piece) (lex : Option Fault) → answer s (p ∷ ps) lex ≡ answer u ps lex
+abbrev pub Advances : Machine → Lexeme → Machine → Type 0
+Advances s p u = (ps : List Lexeme) (lex : Option Fault) → answer s (p ∷ ps) lex ≡ answer u ps lex
 
 -- the fault is what this state and piece come to
-abbrev pub IsStop : Stop Fault → Machine → Piece → Type 0
-IsStop (E.Fault f) s p = (ps : List Piece) (lex : Option Fault) → answer s (p ∷ ps) lex ≡ faulty f
+abbrev pub IsStop : Stop Fault → Machine → Lexeme → Type 0
+IsStop (E.Fault f) s p = (ps : List Lexeme) (lex : Option Fault) → answer s (p ∷ ps) lex ≡ faulty f
 IsStop (E.Memory e) s p = Unit {0}
 
 -- what a state comes to with no further pieces

@@ -6,7 +6,7 @@ use Rattle.css_text.specs.Characters.{is_space, ends_word}
 use Rattle.css_tree.specs.Classes.{Each, BeginsWithout, EndsWithout}
 use Rattle.css_tree.specs.Fields.{begins_hack, BeginsNoAtRule}
 use Rattle.css_tree.specs.Mark.{important_letters}
-use Rattle.css_tree.specs.Pieces.{Piece, Shape, shape, is_blank, end_of, last_end}
+use Rattle.css_tree.specs.Pieces.{Lexeme, Shape, shape, is_blank, end_of, last_end}
 use Rattle.css_parse.specs.declared.plain.PlainLeaf.{PlainLeaf}
 use Rattle.css_parse.specs.declared.plain.PlainHead.{PlainHead}
 use Rattle.css_parse.specs.declared.plain.Plain.{Plain}
@@ -111,27 +111,27 @@ IsPlain bytes at (P.Leaf p) = IsPlainLeaf bytes at p
 IsPlain bytes at (P.Head p) = IsPlainHead bytes at p
 
 -- a piece of calm characters
-abbrev pub IsCalm : Piece → Type 0
+abbrev pub IsCalm : Lexeme → Type 0
 IsCalm p = Each is_calm p.text
 
-abbrev pub AreCalm : List Piece → Type 0
+abbrev pub AreCalm : List Lexeme → Type 0
 AreCalm [] = Unit {0}
 AreCalm (p ∷ ps) = IsCalm p × AreCalm ps
 
 -- the word `!important`
-abbrev pub IsMarkPieces : List Piece → Type 0
+abbrev pub IsMarkPieces : List Lexeme → Type 0
 IsMarkPieces [] = ⊥
 IsMarkPieces (p ∷ []) = (shape p ≡ Shape.word) × (p.text ≡ mark_text)
 IsMarkPieces (p ∷ q ∷ ps) = ⊥
 
 -- these pieces are those of the declaration
-pub record IsLeafRun (bytes : List ℕ) (at : ℕ) (p : PlainLeaf) (run : List Piece) : Type 0 where
-  pub word : Piece
-  pub colon : Piece
-  pub back : List Piece
-  pub value : List Piece
-  pub blanks : List Piece
-  pub mark : List Piece
+pub record IsLeafRun (bytes : List ℕ) (at : ℕ) (p : PlainLeaf) (run : List Lexeme) : Type 0 where
+  pub word : Lexeme
+  pub colon : Lexeme
+  pub back : List Lexeme
+  pub value : List Lexeme
+  pub blanks : List Lexeme
+  pub mark : List Lexeme
   pub all : run ≡ word ∷ colon ∷ (back ++ (value ++ (blanks ++ mark)))
   pub is_word : shape word ≡ Shape.word
   pub no_hack : begins_hack word.text ≡ false
@@ -150,9 +150,9 @@ pub record IsLeafRun (bytes : List ℕ) (at : ℕ) (p : PlainLeaf) (run : List P
   pub semicolon_at : last_end p.end (blanks ++ mark) ≡ p.semicolon
 
 -- these pieces are those of the head
-pub record IsHeadRun (bytes : List ℕ) (at : ℕ) (p : PlainHead) (run : List Piece) : Type 0 where
-  pub selector : List Piece
-  pub between : List Piece
+pub record IsHeadRun (bytes : List ℕ) (at : ℕ) (p : PlainHead) (run : List Lexeme) : Type 0 where
+  pub selector : List Lexeme
+  pub between : List Lexeme
   pub all : run ≡ selector ++ between
   pub selector_some : 0 < length selector
   pub selector_calm : AreCalm selector

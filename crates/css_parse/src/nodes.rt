@@ -1,7 +1,7 @@
 // The nodes of the parser's list, and their ends.
 ghost use Rattle.std.specs.Prelude.{◌≡◌, ◌<◌, [], ◌∷◌, IfOk, length};
 ghost use Rattle.css_tree.specs.Pieces.{shape, Shape as S};
-ghost use Rattle.css_tree.specs.Fields.{first_at};
+ghost use Rattle.css_tree.specs.Fields.{begins_at};
 ghost use Rattle.css_tree.proofs.TreeOf.{block_text as block_text_of};
 ghost use Rattle.css_parse.specs.Gaps.{gap_of};
 ghost use Rattle.css_parse.specs.Machine.{comment_node, leaf_node, open_node, open_end};
@@ -28,7 +28,7 @@ pub fn open_end() -> Block
 
 /// Where the pieces begin, or else that one.
 fn first_start(pieces: &[Piece], piece: &Piece) -> u32
-    ensures { result ≡ first_at pieces.now piece.now }
+    ensures { result ≡ begins_at pieces.now piece.now }
 {
     match pieces {
         [] => piece.start(),

@@ -25,8 +25,8 @@ fn placed(text: &Text, found: Found) -> SyntaxFault
     }
 }
 
-/// Reads a style sheet by the rules of PostCSS 8. Its nodes are numbered in document order from the root, 0, all are dirty, and the
-/// log is empty.
+/// Reads a style sheet by this project's own grammar of statements, which is close to PostCSS 8's. Its nodes are numbered in
+/// document order from the root, 0, all are dirty, and the log is empty.
 ///
 /// # Errors
 ///

@@ -1,7 +1,7 @@
 // The parser between two pieces.
 ghost use Rattle.std.specs.Prelude.{◌≡◌, ◌+◌, ◌<◌, ◌≤◌, ◌++◌, ◌∷◌, [], length, IfOk, IfErr, if◌then◌else◌};
 ghost use Rattle.css_text.specs.Shared.{IsPart};
-ghost use Rattle.css_tree.specs.Pieces.{Piece as Seen, shape, end_of, last_end, is_blank, join, Shape as S};
+ghost use Rattle.css_tree.specs.Pieces.{Lexeme as Seen, shape, end_of, last_end, is_blank, join, Shape as S};
 ghost use Rattle.css_tree.specs.Classes.{Each};
 ghost use Rattle.css_tree.specs.Turn.{Turn, within, gap, alone, ends, closes, opens};
 ghost use Rattle.css_tree.proofs.Reader.{settle};

@@ -43,7 +43,7 @@ pub struct Piece<'t> {
 impl<'t> Model for Piece<'t> {
     ghost use Rattle.std.specs.Prelude.{◌≡◌, ◌+◌, ◌<◌, ◌≤◌, length};
     ghost use Rattle.std.specs.Str.{chars, IsUtf8};
-    ghost use Rattle.css_tree.specs.Pieces.{Piece as Seen, shape_of};
+    ghost use Rattle.css_tree.specs.Pieces.{Lexeme as Seen, shape_of};
     ghost use Rattle.css_tree.proofs.Formed.{FormedBy};
     ghost use Rattle.css_parse.specs.Shapes.{named};
 

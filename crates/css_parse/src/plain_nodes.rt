@@ -2,7 +2,7 @@
 ghost use Rattle.std.specs.Prelude.{◌≡◌, ◌+◌, ◌<◌, ◌≤◌, ◌∷◌, [], List, IfOk};
 ghost use Rattle.std.specs.Str.{chars};
 ghost use Rattle.css_text.specs.Shared.{part, IsPart};
-ghost use Rattle.css_tree.specs.Pieces.{Piece, end_of};
+ghost use Rattle.css_tree.specs.Pieces.{Lexeme, end_of};
 ghost use Rattle.css_parse.specs.Machine.{leaf_node, open_node};
 ghost use Rattle.css_parse.specs.Plain.{IsPlainLeaf, IsPlainHead, IsLeafRun, IsHeadRun};
 ghost use Rattle.css_parse.specs.Standing.{sheet, gap_text, IsSheet};
@@ -39,7 +39,7 @@ pub fn plain_leaf_node(
     requires gap { IsPart (sheet texts) gap.start gap.end }
     requires plain { IsPlainLeaf (sheet texts) gap.end plain.now }
     ensures parent { IfOk result (λ n. n.parent ≡ parent) }
-    ensures node { IfOk result (λ n. (run : List Piece) → IsLeafRun (sheet texts.entry) gap.end plain.now run → n ≡ leaf_node parent (gap_text (sheet texts.entry) gap) run) }
+    ensures node { IfOk result (λ n. (run : List Lexeme) → IsLeafRun (sheet texts.entry) gap.end plain.now run → n ≡ leaf_node parent (gap_text (sheet texts.entry) gap) run) }
 {
     let colon = plain.colon as u32;
     let value = plain.value as u32;
@@ -78,7 +78,7 @@ pub fn plain_head_node(
     requires gap { IsPart (sheet texts) gap.start gap.end }
     requires plain { IsPlainHead (sheet texts) gap.end plain.now }
     ensures parent { IfOk result (λ n. n.parent ≡ parent) }
-    ensures node { IfOk result (λ n. (run : List Piece) → IsHeadRun (sheet texts.entry) gap.end plain.now run → (q : Piece) → q.at ≡ plain.now.brace → end_of q ≡ plain.now.brace + 1 → n ≡ open_node parent (gap_text (sheet texts.entry) gap) run q) }
+    ensures node { IfOk result (λ n. (run : List Lexeme) → IsHeadRun (sheet texts.entry) gap.end plain.now run → (q : Lexeme) → q.at ≡ plain.now.brace → end_of q ≡ plain.now.brace + 1 → n ≡ open_node parent (gap_text (sheet texts.entry) gap) run q) }
 {
     let end = plain.end as u32;
     let before = texts.part(gap.start, gap.end)?;

@@ -1,7 +1,7 @@
 // Plain statements, which the parser takes from their bytes at once.
 ghost use Rattle.std.specs.Prelude.{◌≡◌, ◌+◌, ◌<◌, ◌≤◌, List, [], ◌∷◌, length, slice_range, IfOk, MatchOption};
 ghost use Rattle.std.specs.Str.{chars, IsCharBoundary};
-ghost use Rattle.css_tree.specs.Pieces.{Piece as Seen, end_of};
+ghost use Rattle.css_tree.specs.Pieces.{Lexeme as Seen, end_of};
 ghost use Rattle.css_parse.specs.Model.{model, IsUpTo};
 ghost use Rattle.css_parse.specs.Plain.{IsPlainLeaf, IsPlainHead, IsLeafRun, IsHeadRun};
 ghost use Rattle.css_parse.specs.PlainSteps.{leaf_next, head_next, brace};

@@ -25,7 +25,7 @@ pub struct Run<'t> {
 
 impl<'t> Model for Run<'t> {
     ghost use Rattle.std.specs.Prelude.{◌≡◌, List};
-    ghost use Rattle.css_tree.specs.Pieces.{Piece as Seen};
+    ghost use Rattle.css_tree.specs.Pieces.{Lexeme as Seen};
     ghost use Rattle.css_parse.specs.Head.{head_of, behind};
 
     ghost Value = { List Seen };

@@ -1,6 +1,6 @@
 // What a piece is to the statement or at-rule in progress, and the fault that it may be.
 ghost use Rattle.std.specs.Prelude.{◌≡◌, ◌<◌, ◌≤◌, ℕ, List, [], reverse, length, map};
-ghost use Rattle.css_tree.specs.Pieces.{Piece as Seen, shape};
+ghost use Rattle.css_tree.specs.Pieces.{Lexeme as Seen, shape};
 ghost use Rattle.css_tree.specs.Turn.{Turn, awaits, idle, busy, is_custom, turn};
 ghost use Rattle.css_tree.specs.Fault.{unknown, nameless, fits_by, fits_end, state};
 ghost use Rattle.css_parse.specs.Shapes.{named};

@@ -6,7 +6,7 @@ use Rattle.std.proofs.lemmas.List.{append_assoc}
 use Rattle.css_text.specs.declared.lexer.Piece.{Piece}
 use Rattle.css_text.specs.declared.lexer.LexFault.{LexFault}
 use Rattle.css_text.specs.Pieces.{Unclosed, Token, joined}
-use Rattle.css_text.specs.Ahead.{Ahead, placed, piece, fault_at, next_of, rest_of, byte_len}
+use Rattle.css_text.specs.Ahead.{Ahead, placed, piece, unclosed_at, next_of, rest_of, byte_len}
 use Rattle.css_text.proofs.Slices.{IsFrom, IsSlice, from_boundary, from_front, from_back}
 
 -- The reader stands at the byte `at`. These tokens are ahead, behind them the fault, and the text goes on with `rest` there.
@@ -54,7 +54,7 @@ no_piece p (Some x) e = cc
 
 next_by : (bs : List ℕ) (at : ℕ) (ts : List Token) (rest : List ℕ) (f : Option Unclosed) (p : Piece) → IsFrom bs at (joined ts ++ rest)
     → next_of (placed byte_len at ts f).pieces (placed byte_len at ts f).fault ≡ Ok (Some p) → Next bs at ts rest f (placed byte_len at ts f) p
-next_by bs at [] rest f p h e = absurd (no_piece p (option_map (fault_at at) f) e)
+next_by bs at [] rest f p h e = absurd (no_piece p (option_map (unclosed_at at) f) e)
 next_by bs at (t ∷ ts) rest f p h e =
     subst (Next bs at (t ∷ ts) rest f (placed byte_len at (t ∷ ts) f)) (same_piece (piece t.kind at (at + byte_len t.text)) p e) (next_token bs at t ts rest f h)
 
@@ -77,15 +77,15 @@ at_end bs at ts rest f a h e =
 same_fault : (x y : LexFault) → ◌≡◌ {A = Result (Option Piece) LexFault} (Err x) (Err y) → y ≡ x
 same_fault x y e = cc
 
-fault_by : (at : ℕ) (ts : List Token) (f : Option Unclosed) (x : LexFault) → next_of (placed byte_len at ts f).pieces (placed byte_len at ts f).fault ≡ Err x → (u : Unclosed) × (ts ≡ []) × (f ≡ Some u) × (x ≡ fault_at at u)
+fault_by : (at : ℕ) (ts : List Token) (f : Option Unclosed) (x : LexFault) → next_of (placed byte_len at ts f).pieces (placed byte_len at ts f).fault ≡ Err x → (u : Unclosed) × (ts ≡ []) × (f ≡ Some u) × (x ≡ unclosed_at at u)
 fault_by at [] None x e = cc
-fault_by at [] (Some u) x e = (u, refl, refl, same_fault (fault_at at u) x e)
+fault_by at [] (Some u) x e = (u, refl, refl, same_fault (unclosed_at at u) x e)
 fault_by at (t ∷ ts) f x e = cc
 
 pub at_fault : (bs : List ℕ) (at : ℕ) (ts : List Token) (rest : List ℕ) (f : Option Unclosed) (a : Ahead) (x : LexFault) → IsAt bs at ts rest f a → next_of a.pieces a.fault ≡ Err x
-    → (u : Unclosed) × (ts ≡ []) × (f ≡ Some u) × (x ≡ fault_at at u)
+    → (u : Unclosed) × (ts ≡ []) × (f ≡ Some u) × (x ≡ unclosed_at at u)
 at_fault bs at ts rest f a x h e =
-    let P : Ahead → Type 0 = λ a. next_of a.pieces a.fault ≡ Err x → (u : Unclosed) × (ts ≡ []) × (f ≡ Some u) × (x ≡ fault_at at u) in
+    let P : Ahead → Type 0 = λ a. next_of a.pieces a.fault ≡ Err x → (u : Unclosed) × (ts ≡ []) × (f ≡ Some u) × (x ≡ unclosed_at at u) in
     subst P (sym h.ahead) (fault_by at ts f x) e
 
 -- the text ahead, by the tokens of a run

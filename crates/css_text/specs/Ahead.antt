@@ -15,10 +15,11 @@ pub record Ahead : Type 0 where
   pub pieces : List Piece
   pub fault : Option LexFault
 
-abbrev pub fault_at : ℕ → Unclosed → LexFault
-fault_at at string = UnclosedString at
-fault_at at comment = UnclosedComment at
-fault_at at url = UnclosedUrl at
+-- the fault of a form without its end that begins at the place
+abbrev pub unclosed_at : ℕ → Unclosed → LexFault
+unclosed_at at string = UnclosedString at
+unclosed_at at comment = UnclosedComment at
+unclosed_at at url = UnclosedUrl at
 
 abbrev pub piece : PieceKind → ℕ → ℕ → Piece
 piece kind start end = record { kind = kind; span = record { start = start; end = end } }
@@ -28,7 +29,7 @@ more p a = record { pieces = p ∷ a.pieces; fault = a.fault }
 
 -- the pieces from the place `at` on, where a text takes as much as `size` says
 abbrev pub placed : (List ℕ → ℕ) → ℕ → List Token → Option Unclosed → Ahead
-placed size at [] fault = record { pieces = []; fault = option_map (fault_at at) fault }
+placed size at [] fault = record { pieces = []; fault = option_map (unclosed_at at) fault }
 placed size at (t ∷ ts) fault = more (piece t.kind at (at + size t.text)) (placed size (at + size t.text) ts fault)
 
 -- what is ahead at the place `at`, before these bytes

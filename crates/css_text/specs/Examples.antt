@@ -44,7 +44,14 @@ abbrev pub Places : Type 0
 Places = (place_of (0xfeff ∷ 97 ∷ []) 4 ≡ record { line = 1; column = 2 }) × (place_of (97 ∷ 10 ∷ 0x1d11e ∷ 98 ∷ []) 7 ≡ record { line = 2; column = 4 })
     × (place_of (97 ∷ 13 ∷ 10 ∷ 98 ∷ []) 2 ≡ record { line = 1; column = 3 }) × (place_of (97 ∷ 13 ∷ 10 ∷ 98 ∷ []) 3 ≡ record { line = 2; column = 1 })
 
--- a rule of an ordinary sheet
+-- A rule of an ordinary sheet has no fault; and the pieces of another, each by its bytes.
 abbrev pub OrdinaryRule : Type 0
 OrdinaryRule =
-    (pieces (codes ".nav > li:not(.active)::before {\n  content: \"\\201C\";\n  color: var(--brand, #336699);\n  -webkit-transition: opacity .2s ease-in-out;\n  transition: opacity .2s ease-in-out;\n}\n")).fault ≡ None
+    ((pieces (codes ".nav > li:not(.active)::before {\n  content: \"\\201C\";\n  color: var(--brand, #336699);\n  -webkit-transition: opacity .2s ease-in-out;\n  transition: opacity .2s ease-in-out;\n}\n")).fault ≡ None)
+    × (pieces (codes "a > li:hover {\n  color: var(--b, #369);\n}\n")
+    ≡ record {
+      pieces = piece Word 0 1 ∷ piece Space 1 2 ∷ piece Word 2 3 ∷ piece Space 3 4 ∷ piece Word 4 6 ∷ piece Single 6 7 ∷ piece Word 7 12 ∷ piece Space 12 13 ∷ piece Single 13 14
+          ∷ piece Space 14 17 ∷ piece Word 17 22 ∷ piece Single 22 23 ∷ piece Space 23 24 ∷ piece Word 24 27 ∷ piece Single 27 28 ∷ piece Word 28 31 ∷ piece Single 31 32 ∷ piece Space 32 33
+          ∷ piece Word 33 37 ∷ piece Single 37 38 ∷ piece Single 38 39 ∷ piece Space 39 40 ∷ piece Single 40 41 ∷ piece Space 41 42 ∷ [];
+      fault = None;
+    })

@@ -10,5 +10,4 @@ pub mod Lines
 pub mod TextAnswer
 pub mod Blocks
 pub mod PieceKinds
-pub mod ValueNumber
 pub mod ValueParts

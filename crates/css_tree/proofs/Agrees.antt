@@ -1,6 +1,6 @@
 -- The reader fails exactly with the fault of the definition.
 use Rattle.std.proofs.Common.{◌≡◌, List, [], ◌∷◌, ◌++◌, Option, Some, None, refl, ◌∙◌}
-use Rattle.css_tree.specs.Pieces.{Piece}
+use Rattle.css_tree.specs.Pieces.{Lexeme}
 use Rattle.css_tree.specs.Turn.{Turn, within, gap, alone, ends, closes, opens, turn}
 use Rattle.css_tree.specs.Fault.{Fault, State, state, end_fault, outer, step_by, fault_from}
 use Rattle.css_tree.proofs.Reader.{Rest, Outcome, fails, ok, map_ok, checked, act, outcome}
@@ -27,9 +27,9 @@ in-checked : (f : Option Fault) (x : Outcome) (y : Option Fault) → fault_in x 
 in-checked (Some f) x y e = refl
 in-checked None x y e = e
 
-in-act : (t : Turn) (k : List Piece → List Piece → List Piece → List Piece → Outcome) (h : State → Option Fault)
-    → ((o g r aw : List Piece) → fault_in (k o g r aw) ≡ h (state o aw r))
-    → (o g r : List Piece) (p : Piece) → fault_in (act t k o g r p) ≡ h (step_by o r p t)
+in-act : (t : Turn) (k : List Lexeme → List Lexeme → List Lexeme → List Lexeme → Outcome) (h : State → Option Fault)
+    → ((o g r aw : List Lexeme) → fault_in (k o g r aw) ≡ h (state o aw r))
+    → (o g r : List Lexeme) (p : Lexeme) → fault_in (act t k o g r p) ≡ h (step_by o r p t)
 in-act (within aw) k h e o g r p = e o g (r ++ p ∷ []) aw
 in-act gap k h e o g r p = e o (g ++ p ∷ []) [] []
 in-act alone k h e o g r p = in-map _ _ ∙ e o [] [] []
@@ -38,7 +38,7 @@ in-act closes k h e o g r p = in-map _ _ ∙ e (outer o) [] [] []
 in-act opens k h e o g r p = in-map _ _ ∙ e (p ∷ o) [] [] []
 
 -- the fault that the reader fails with is the fault of the definition
-pub agrees : (ps : List Piece) (lex : Option Fault) (o g r aw : List Piece) → fault_in (outcome ps lex o g r aw) ≡ fault_from (state o aw r) ps lex
+pub agrees : (ps : List Lexeme) (lex : Option Fault) (o g r aw : List Lexeme) → fault_in (outcome ps lex o g r aw) ≡ fault_from (state o aw r) ps lex
 unfolding outcome fault_from
 agrees [] lex o g r aw = in-checked_end _ _
 agrees (p ∷ ps) lex o g r aw =

@@ -10,7 +10,7 @@ use Rattle.css_text.specs.declared.lexer.PieceKind.TheVariants.{Space, Comment, 
 use Rattle.css_text.specs.declared.lexer.Piece.{Piece}
 use Rattle.css_text.specs.declared.lexer.LexFault.{LexFault}
 use Rattle.css_text.specs.Pieces.{Unclosed, Token, cut, joined}
-use Rattle.css_text.specs.Ahead.{Ahead, placed, piece, fault_at, next_of, rest_of, byte_len, begins_bom, bom_len, without_bom, pieces}
+use Rattle.css_text.specs.Ahead.{Ahead, placed, piece, unclosed_at, next_of, rest_of, byte_len, begins_bom, bom_len, without_bom, pieces}
 use Rattle.css_tree.specs.Clean.{kept, without_comments, clean_of}
 use Rattle.std.proofs.lemmas.Bool.{eqb-true, false≢true}
 use Rattle.css_text.proofs.Bytes.{low_or_high, front_low, front_high}
@@ -96,7 +96,7 @@ no_piece p (Some x) e = cc
 
 step_by : (cs bs : List ℕ) (done : ℕ) (out : List ℕ) (ts : List Token) (rest : List ℕ) (f : Option Unclosed) (p : Piece) → done ≤ length bs → drop done bs ≡ encodes (joined ts ++ rest)
     → out ++ encodes (without_comments ts ++ rest) ≡ encodes (clean_of cs) → Ok (Some p) ≡ next_of (placed byte_len done ts f).pieces (placed byte_len done ts f).fault → Step cs bs done out (placed byte_len done ts f) p
-step_by cs bs done out [] rest f p fits text result e = absurd (no_piece p (option_map (fault_at done) f) e)
+step_by cs bs done out [] rest f p fits text result e = absurd (no_piece p (option_map (unclosed_at done) f) e)
 step_by cs bs done out (t ∷ ts) rest f p fits text result e =
     subst (Step cs bs done out (placed byte_len done (t ∷ ts) f)) (sym (same_piece p (piece t.kind done (done + byte_len t.text)) e)) (step_token cs bs done out t ts rest f fits text result)
 

@@ -6,11 +6,11 @@ use Rattle.css_tree.specs.declared.node.Block.{Block}
 use Rattle.css_tree.specs.declared.node.NodeText.{NodeText}
 use Rattle.css_tree.specs.declared.node.NodeText.TheVariants as N
 use Rattle.css_tree.specs.Tree.{Trees}
-use Rattle.css_tree.specs.Pieces.{Piece, Shape, shape, is_blank, is_blank_shape, join, end_of, last_end}
+use Rattle.css_tree.specs.Pieces.{Lexeme, Shape, shape, is_blank, is_blank_shape, join, end_of, last_end}
 use Rattle.css_tree.specs.Turn.{is_allowed, allowed_by, colon_next, colon_by}
 use Rattle.css_tree.specs.Classes.{Each, BeginsWithout, EndsWithout}
 use Rattle.css_tree.specs.Nodes.{Nodes, none, comment, leaf, block, line, AreNodes, IsRun, IsPrelude, begins_shape}
-use Rattle.css_tree.specs.Fields.{IsComment, IsAtRule, IsRule, IsDeclaration, IsLeaf, IsBlock, IsHack, begins_hack, BeginsNoAtRule, source_text, span_of, first_at}
+use Rattle.css_tree.specs.Fields.{IsComment, IsAtRule, IsRule, IsDeclaration, IsLeaf, IsBlock, IsHack, begins_hack, BeginsNoAtRule, source_text, span_of, begins_at}
 use Rattle.css_tree.specs.Reads.{AreTrees, block_of_nodes}
 use Rattle.css_tree.proofs.Split.{solid, solid_by, tail, tail_by, lead, lead_by, unlead, unlead_by, hack, hack_by, mark_of, value_of, important_of, is_marked}
 use Rattle.css_tree.proofs.TreeOf.{declaration_text, at_rule_text, after_name_of, between_of, leaf_text, leaf_text_by, rule_text, block_text, block_text_by, comment_text, inner_of, hack_of_shape, leaf_span, comment_span, trees}
@@ -20,18 +20,18 @@ use Rattle.css_tree.proofs.Formed.{FormedBy, AllFormed, formed-front, formed-bac
 
 -- Comments.
 
-comment-inner : (p : Piece) (l t r : List ℕ) → p.text ≡ 47 ∷ 42 ∷ (l ++ (t ++ (r ++ 42 ∷ 47 ∷ []))) → inner_of p.text ≡ l ++ (t ++ r)
+comment-inner : (p : Lexeme) (l t r : List ℕ) → p.text ≡ 47 ∷ 42 ∷ (l ++ (t ++ (r ++ 42 ∷ 47 ∷ []))) → inner_of p.text ≡ l ++ (t ++ r)
 comment-inner p l t r e =
     ap inner_of (e ∙ ap (λ z. 47 ∷ 42 ∷ z) (ap (λ z. l ++ z) (sym (append_assoc t r (42 ∷ 47 ∷ []))) ∙ sym (append_assoc l (t ++ r) (42 ∷ 47 ∷ [])))) ∙ inner-is (l ++ (t ++ r))
 
-pub comment-fixed : (b : List Piece) (p : Piece) (node : NodeText) (span : Option Span) → IsComment b p node span → (node ≡ comment_text b p) × (span ≡ comment_span p)
+pub comment-fixed : (b : List Lexeme) (p : Lexeme) (node : NodeText) (span : Option Span) → IsComment b p node span → (node ≡ comment_text b p) × (span ≡ comment_span p)
 comment-fixed b p node span h =
     let e = comment-inner p h.left h.text h.right h.all in
     let k = lead-fixed is_space h.left (h.text ++ h.right) h.left_class (begins-append is_space h.text h.right h.text_begins h.right_empty) in
     let t = trim-fixed is_space h.text h.right h.text_ends h.right_class in
     (h.is_node ∙ rw (e, k.0, k.1, t.0, t.1) refl, h.is_span)
 
-pub comment-exists : (b : List Piece) (p : Piece) → p.text ≡ 47 ∷ 42 ∷ (inner_of p.text ++ 42 ∷ 47 ∷ []) → IsComment b p (comment_text b p) (comment_span p)
+pub comment-exists : (b : List Lexeme) (p : Lexeme) → p.text ≡ 47 ∷ 42 ∷ (inner_of p.text ++ 42 ∷ 47 ∷ []) → IsComment b p (comment_text b p) (comment_span p)
 comment-exists b p e =
     let i = inner_of p.text in
     let u = unlead_by is_space i in
@@ -53,14 +53,14 @@ comment-exists b p e =
 
 -- At-rules.
 
-blank-unlead : (xs : List Piece) → Each is_blank xs → unlead xs ≡ []
+blank-unlead : (xs : List Lexeme) → Each is_blank xs → unlead xs ≡ []
 blank-unlead xs h = ap unlead (sym (append-nil xs)) ∙ (lead-fixed is_blank xs [] h tt).1
 
 solid-nil : solid [] ≡ []
 unfolding solid_by
 solid-nil = refl
 
-at_rule-is : (b : List Piece) (w : Piece) (name : List ℕ) (a params c : List Piece) (blk : Option Block) → w.text ≡ 64 ∷ name → Each is_blank a → BeginsWithout is_blank params
+at_rule-is : (b : List Lexeme) (w : Lexeme) (name : List ℕ) (a params c : List Lexeme) (blk : Option Block) → w.text ≡ 64 ∷ name → Each is_blank a → BeginsWithout is_blank params
     → EndsWithout is_blank params → Each is_blank c → (params ≡ [] → a ≡ []) → at_rule_text b w (a ++ (params ++ c)) blk ≡ N.AtRule (Some (join b)) name (join a) (source_text params) (join c) blk
 at_rule-is b w name a [] c blk e ha hb he hc hn =
     rw (hn refl, blank-unlead c hc, solid-nil, e) refl
@@ -69,30 +69,30 @@ at_rule-is b w name a (p ∷ ps) c blk e ha hb he hc hn =
     let t = trim-fixed is_blank (p ∷ ps) c he hc in
     rw (k.1, t.0) (rw (k.0, k.1, t.1, e) refl)
 
-at_rule-all : (r : List Piece) (params : List Piece) → solid (unlead r) ≡ params → after_name_of r params ++ (params ++ between_of r params) ≡ r
+at_rule-all : (r : List Lexeme) (params : List Lexeme) → solid (unlead r) ≡ params → after_name_of r params ++ (params ++ between_of r params) ≡ r
 at_rule-all r [] e = refl
 at_rule-all r (p ∷ ps) e = ap (λ z. lead r ++ z) (ap (λ z. z ++ tail (unlead r)) (sym e) ∙ trim-all is_blank (unlead r)) ∙ lead-all is_blank r
 
-after_name-blank : (r params : List Piece) → Each is_blank (after_name_of r params)
+after_name-blank : (r params : List Lexeme) → Each is_blank (after_name_of r params)
 after_name-blank r [] = tt
 after_name-blank r (p ∷ ps) = lead-each is_blank r
 
 -- where nothing but blanks is there, all of it is
-blank-all : (r : List Piece) → solid (unlead r) ≡ [] → Each is_blank r
+blank-all : (r : List Lexeme) → solid (unlead r) ≡ [] → Each is_blank r
 blank-all r e =
     let k = trim-begins is_blank (unlead r) (unlead-begins is_blank r) in
     let u : unlead r ≡ [] = sym (trim-all is_blank (unlead r)) ∙ (ap (λ z. z ++ tail (unlead r)) e ∙ k.1 e) in
     subst (λ z. Each is_blank z) (sym (append-nil (lead r)) ∙ (ap (λ z. lead r ++ z) (sym u) ∙ lead-all is_blank r)) (lead-each is_blank r)
 
-between-blank : (r params : List Piece) → solid (unlead r) ≡ params → Each is_blank (between_of r params)
+between-blank : (r params : List Lexeme) → solid (unlead r) ≡ params → Each is_blank (between_of r params)
 between-blank r [] e = blank-all r e
 between-blank r (p ∷ ps) e = trim-tail is_blank (unlead r)
 
-after_name-empty : (r params : List Piece) → params ≡ [] → after_name_of r params ≡ []
+after_name-empty : (r params : List Lexeme) → params ≡ [] → after_name_of r params ≡ []
 after_name-empty r [] e = refl
 after_name-empty r (p ∷ ps) e = absurd (cc)
 
-at_rule-exists : (b : List Piece) (w : Piece) (r : List Piece) (blk : Option Block) (end : ℕ) → shape w ≡ Shape.at_name → w.text ≡ 64 ∷ drop 1 w.text
+at_rule-exists : (b : List Lexeme) (w : Lexeme) (r : List Lexeme) (blk : Option Block) (end : ℕ) → shape w ≡ Shape.at_name → w.text ≡ 64 ∷ drop 1 w.text
     → IsAtRule b (w ∷ r) blk end (at_rule_text b w r blk) (span_of w.at end)
 at_rule-exists b w r blk end es et =
     let params = solid (unlead r) in
@@ -138,15 +138,15 @@ hack-some false (c ∷ cs) e = (e, refl)
 hack-exists : (t : List ℕ) → IsHack (hack t) t × (t ≡ hack t ++ drop (length (hack t)) t)
 hack-exists t = hack-some (begins_hack t) t refl
 
-colon-solid : (c : Piece) → shape c ≡ Shape.colon → is_blank c ≡ false
+colon-solid : (c : Lexeme) → shape c ≡ Shape.colon → is_blank c ≡ false
 unfolding is_blank
 colon-solid c e = rw e refl
 
-abbrev declared : List Piece → List ℕ → List ℕ → List Piece → Piece → List Piece → List Piece → Bool → List ℕ → List Piece → NodeText
+abbrev declared : List Lexeme → List ℕ → List ℕ → List Lexeme → Lexeme → List Lexeme → List Lexeme → Bool → List ℕ → List Lexeme → NodeText
 declared b h prop front c back value marked important tl =
     N.Declaration (Some (join b ++ h)) prop (join (front ++ c ∷ back)) (source_text value) marked important (join tl)
 
-declaration-is : (b : List Piece) (w : Piece) (run : List Piece) (node : NodeText) (span : Option Span) (h : IsDeclaration b run node span)
+declaration-is : (b : List Lexeme) (w : Lexeme) (run : List Lexeme) (node : NodeText) (span : Option Span) (h : IsDeclaration b run node span)
     → declaration_text b h.word (h.front ++ h.colon ∷ (h.back ++ (h.body ++ h.tail)))
     ≡ declared b h.hack h.prop h.front h.colon h.back h.value h.marked h.important h.tail
 declaration-is b w run node span h =
@@ -157,24 +157,24 @@ declaration-is b w run node span h =
     let x = hack-fixed h.word.text h.hack h.prop h.word_text h.hack_class in
     rw (k.0, k.1, l.0, l.1, t.0, t.1, x.0, x.1, v.value_is, v.marked_is, v.important_is) refl
 
-colon-is : (s : Shape) (p : Piece) (ps : List Piece) → shape p ≡ s → colon_by s (colon_next ps) ≡ true
-    → (colon_next ps ≡ true → (c : Piece) × (rest : List Piece) × (unlead ps ≡ c ∷ rest) × (shape c ≡ Shape.colon))
-    → (c : Piece) × (rest : List Piece) × (cond (is_blank_shape s) (unlead ps) (p ∷ ps) ≡ c ∷ rest) × (shape c ≡ Shape.colon)
+colon-is : (s : Shape) (p : Lexeme) (ps : List Lexeme) → shape p ≡ s → colon_by s (colon_next ps) ≡ true
+    → (colon_next ps ≡ true → (c : Lexeme) × (rest : List Lexeme) × (unlead ps ≡ c ∷ rest) × (shape c ≡ Shape.colon))
+    → (c : Lexeme) × (rest : List Lexeme) × (cond (is_blank_shape s) (unlead ps) (p ∷ ps) ≡ c ∷ rest) × (shape c ≡ Shape.colon)
 colon-is Shape.space p ps e h k = k h
 colon-is Shape.comment p ps e h k = k h
 colon-is Shape.colon p ps e h k = (p, ps, refl, e)
 colon-is _ p ps e h k = absurd (true≢false (sym h))
 
-colon_of : (ps : List Piece) → colon_next ps ≡ true → (c : Piece) × (rest : List Piece) × (unlead ps ≡ c ∷ rest) × (shape c ≡ Shape.colon)
+colon_of : (ps : List Lexeme) → colon_next ps ≡ true → (c : Lexeme) × (rest : List Lexeme) × (unlead ps ≡ c ∷ rest) × (shape c ≡ Shape.colon)
 unfolding colon_next unlead_by is_blank
 colon_of [] h = absurd (true≢false (sym h))
 colon_of (p ∷ ps) h = colon-is (shape p) p ps refl h (colon_of ps)
 
-declaration-all : (r : List Piece) (c : Piece) (rest : List Piece) → unlead r ≡ c ∷ rest → lead r ++ c ∷ (lead rest ++ (solid (unlead rest) ++ tail (unlead rest))) ≡ r
+declaration-all : (r : List Lexeme) (c : Lexeme) (rest : List Lexeme) → unlead r ≡ c ∷ rest → lead r ++ c ∷ (lead rest ++ (solid (unlead rest) ++ tail (unlead rest))) ≡ r
 declaration-all r c rest e =
     ap (λ z. lead r ++ c ∷ z) (ap (λ z. lead rest ++ z) (trim-all is_blank (unlead rest)) ∙ lead-all is_blank rest) ∙ (ap (λ z. lead r ++ z) (sym e) ∙ lead-all is_blank r)
 
-declaration-exists : (b : List Piece) (w : Piece) (r : List Piece) → shape w ≡ Shape.word → colon_next r ≡ true
+declaration-exists : (b : List Lexeme) (w : Lexeme) (r : List Lexeme) → shape w ≡ Shape.word → colon_next r ≡ true
     → IsDeclaration b (w ∷ r) (declaration_text b w r) (span_of (w.at + length (hack w.text)) (last_end (end_of w) r))
 declaration-exists b w r es ec =
     let k = colon_of r ec in
@@ -213,14 +213,14 @@ declaration-exists b w r es ec =
 
 -- A leaf.
 
-leaf-at : (b : List Piece) (w : Piece) (r : List Piece) → shape w ≡ Shape.at_name → (leaf_text b (w ∷ r) ≡ at_rule_text b w r None) × (leaf_span (w ∷ r) ≡ span_of w.at (last_end (end_of w) r))
+leaf-at : (b : List Lexeme) (w : Lexeme) (r : List Lexeme) → shape w ≡ Shape.at_name → (leaf_text b (w ∷ r) ≡ at_rule_text b w r None) × (leaf_span (w ∷ r) ≡ span_of w.at (last_end (end_of w) r))
 leaf-at b w r e = (rw e refl, rw e (ap (λ z. span_of z (last_end (end_of w) r)) (add-zero w.at)))
 
-leaf-word : (b : List Piece) (w : Piece) (r : List Piece) → shape w ≡ Shape.word
+leaf-word : (b : List Lexeme) (w : Lexeme) (r : List Lexeme) → shape w ≡ Shape.word
     → (leaf_text b (w ∷ r) ≡ declaration_text b w r) × (leaf_span (w ∷ r) ≡ span_of (w.at + length (hack w.text)) (last_end (end_of w) r))
 leaf-word b w r e = (rw e refl, rw e refl)
 
-pub leaf-fixed : (b run : List Piece) (node : NodeText) (span : Option Span) → IsLeaf b run node span → (node ≡ leaf_text b run) × (span ≡ leaf_span run)
+pub leaf-fixed : (b run : List Lexeme) (node : NodeText) (span : Option Span) → IsLeaf b run node span → (node ≡ leaf_text b run) × (span ≡ leaf_span run)
 leaf-fixed b run node span (inl h) =
     let r = h.after_name ++ (h.params ++ h.between) in
     let l = leaf-at b h.word r h.word_class in (
@@ -236,25 +236,25 @@ leaf-fixed b run node span (inr h) =
       h.is_span ∙ (ap (λ z. span_of (h.word.at + length z) (last_end (end_of h.word) r)) (sym x.0) ∙ (sym l.1 ∙ ap leaf_span (sym h.all))),
     )
 
-leaf-by : (s : Shape) (b : List Piece) (w : Piece) (r : List Piece) → shape w ≡ s → allowed_by s (colon_next r) ≡ true → FormedBy s w.text
+leaf-by : (s : Shape) (b : List Lexeme) (w : Lexeme) (r : List Lexeme) → shape w ≡ s → allowed_by s (colon_next r) ≡ true → FormedBy s w.text
     → IsLeaf b (w ∷ r) (leaf_text_by s b w r) (span_of (w.at + length (hack_of_shape s w.text)) (last_end (end_of w) r))
 leaf-by Shape.at_name b w r es e h =
     inl (subst (λ z. IsAtRule b (w ∷ r) None (last_end (end_of w) r) (at_rule_text b w r None) (span_of z (last_end (end_of w) r))) (sym (add-zero w.at)) (at_rule-exists b w r None (last_end (end_of w) r) es h.0))
 leaf-by Shape.word b w r es e h = inr (declaration-exists b w r es e)
 leaf-by _ b w r es e h = absurd (true≢false (sym e))
 
-pub leaf-exists : (b run : List Piece) → IsRun run → is_allowed run ≡ true → AllFormed run → IsLeaf b run (leaf_text b run) (leaf_span run)
+pub leaf-exists : (b run : List Lexeme) → IsRun run → is_allowed run ≡ true → AllFormed run → IsLeaf b run (leaf_text b run) (leaf_span run)
 unfolding is_allowed
 leaf-exists b [] h e m = absurd h
 leaf-exists b (w ∷ r) h e m = leaf-by (shape w) b w r refl e m.0
 
 -- A block.
 
-rule-by : (s : Shape) (b : List Piece) (w : Piece) (r : List Piece) (blk : Block) → (s ≡ Shape.at_name → ⊥) → block_text_by s b w r blk ≡ rule_text b (w ∷ r) blk
+rule-by : (s : Shape) (b : List Lexeme) (w : Lexeme) (r : List Lexeme) (blk : Block) → (s ≡ Shape.at_name → ⊥) → block_text_by s b w r blk ≡ rule_text b (w ∷ r) blk
 rule-by Shape.at_name b w r blk h = absurd (h refl)
 rule-by _ b w r blk h = refl
 
-rule-is : (b selector between : List Piece) (blk : Block) → BeginsNoAtRule selector → EndsWithout is_blank selector → Each is_blank between → (selector ≡ [] → between ≡ [])
+rule-is : (b selector between : List Lexeme) (blk : Block) → BeginsNoAtRule selector → EndsWithout is_blank selector → Each is_blank between → (selector ≡ [] → between ≡ [])
     → block_text b (selector ++ between) blk ≡ N.Rule (Some (join b)) (source_text selector) (join between) blk
 unfolding solid_by tail_by
 rule-is b [] between blk hs he hb hn = rw (hn refl) refl
@@ -262,16 +262,16 @@ rule-is b (q ∷ s) between blk hs he hb hn =
     let t = trim-fixed is_blank (q ∷ s) between he hb in
     rule-by (shape q) b q (s ++ between) blk hs ∙ rw (t.0, t.1) refl
 
-block-at : (b : List Piece) (w : Piece) (r : List Piece) (blk : Block) → shape w ≡ Shape.at_name → block_text b (w ∷ r) blk ≡ at_rule_text b w r (Some blk)
+block-at : (b : List Lexeme) (w : Lexeme) (r : List Lexeme) (blk : Block) → shape w ≡ Shape.at_name → block_text b (w ∷ r) blk ≡ at_rule_text b w r (Some blk)
 block-at b w r blk e = rw e refl
 
-pub block-fixed : (b run : List Piece) (o : Piece) (blk : Block) (end : ℕ) (node : NodeText) (span : Option Span) → IsBlock b run o blk end node span
-    → (node ≡ block_text b run blk) × (span ≡ span_of (first_at run o) end)
+pub block-fixed : (b run : List Lexeme) (o : Lexeme) (blk : Block) (end : ℕ) (node : NodeText) (span : Option Span) → IsBlock b run o blk end node span
+    → (node ≡ block_text b run blk) × (span ≡ span_of (begins_at run o) end)
 block-fixed b run o blk end node span (inl h) =
     let r = h.after_name ++ (h.params ++ h.between) in (
       h.is_node ∙ (sym (at_rule-is b h.word h.name h.after_name h.params h.between (Some blk) h.word_text h.after_name_class h.params_begins h.params_ends h.between_class h.after_name_empty)
           ∙ (sym (block-at b h.word r blk h.word_class) ∙ ap (λ z. block_text b z blk) (sym h.all))),
-      h.is_span ∙ ap (λ z. span_of (first_at z o) end) (sym h.all),
+      h.is_span ∙ ap (λ z. span_of (begins_at z o) end) (sym h.all),
     )
 block-fixed b run o blk end node span (inr h) =
     (h.is_node ∙ (sym (rule-is b h.selector h.between blk h.selector_kind h.selector_ends h.between_class h.between_empty) ∙ ap (λ z. block_text b z blk) (sym h.all)), h.is_span)
@@ -281,15 +281,15 @@ begins-solid Shape.space e = absurd (true≢false (sym e))
 begins-solid Shape.comment e = absurd (true≢false (sym e))
 begins-solid _ e = refl
 
-first-solid : (w : Piece) → begins_shape (shape w) ≡ true → is_blank w ≡ false
+first-solid : (w : Lexeme) → begins_shape (shape w) ≡ true → is_blank w ≡ false
 unfolding is_blank
 first-solid w e = begins-solid (shape w) e
 
-rule-no-at : (w : Piece) (r : List Piece) → is_blank w ≡ false → (shape w ≡ Shape.at_name → ⊥) → BeginsNoAtRule (solid (w ∷ r))
+rule-no-at : (w : Lexeme) (r : List Lexeme) → is_blank w ≡ false → (shape w ≡ Shape.at_name → ⊥) → BeginsNoAtRule (solid (w ∷ r))
 unfolding solid_by
 rule-no-at w r e h = rw e h
 
-rule-exists : (b : List Piece) (w : Piece) (r : List Piece) (o : Piece) (blk : Block) (end : ℕ) → is_blank w ≡ false → (shape w ≡ Shape.at_name → ⊥)
+rule-exists : (b : List Lexeme) (w : Lexeme) (r : List Lexeme) (o : Lexeme) (blk : Block) (end : ℕ) → is_blank w ≡ false → (shape w ≡ Shape.at_name → ⊥)
     → IsRule b (w ∷ r) o blk end (rule_text b (w ∷ r) blk) (span_of w.at end)
 rule-exists b w r o blk end e h =
     let t = trim-begins is_blank (w ∷ r) e in
@@ -306,7 +306,7 @@ rule-exists b w r o blk end e h =
       is_span = refl;
     }
 
-empty-exists : (b : List Piece) (o : Piece) (blk : Block) (end : ℕ) → IsRule b [] o blk end (rule_text b [] blk) (span_of o.at end)
+empty-exists : (b : List Lexeme) (o : Lexeme) (blk : Block) (end : ℕ) → IsRule b [] o blk end (rule_text b [] blk) (span_of o.at end)
 unfolding solid_by tail_by
 empty-exists b o blk end = record {
   selector = [];
@@ -321,12 +321,12 @@ empty-exists b o blk end = record {
   is_span = refl;
 }
 
-block-by : (s : Shape) (b : List Piece) (w : Piece) (r : List Piece) (o : Piece) (blk : Block) (end : ℕ) → shape w ≡ s → is_blank w ≡ false → FormedBy s w.text
+block-by : (s : Shape) (b : List Lexeme) (w : Lexeme) (r : List Lexeme) (o : Lexeme) (blk : Block) (end : ℕ) → shape w ≡ s → is_blank w ≡ false → FormedBy s w.text
     → IsBlock b (w ∷ r) o blk end (block_text_by s b w r blk) (span_of w.at end)
 block-by Shape.at_name b w r o blk end es e h = inl (at_rule-exists b w r (Some blk) end es h.0)
 block-by _ b w r o blk end es e h = inr (rule-exists b w r o blk end e (λ k. absurd (cc)))
 
-pub block-exists : (b run : List Piece) (o : Piece) (blk : Block) (end : ℕ) → IsPrelude run → AllFormed run → IsBlock b run o blk end (block_text b run blk) (span_of (first_at run o) end)
+pub block-exists : (b run : List Lexeme) (o : Lexeme) (blk : Block) (end : ℕ) → IsPrelude run → AllFormed run → IsBlock b run o blk end (block_text b run blk) (span_of (begins_at run o) end)
 block-exists b [] o blk end h m = inr (empty-exists b o blk end)
 block-exists b (w ∷ r) o blk end h m = block-by (shape w) b w r o blk end refl (first-solid w h.0.0) m.0
 
@@ -350,7 +350,7 @@ trees-fixed (block b q o x a c f) (Trees.node t s k r) h =
     let e = block-fixed b q o (block_of_nodes x a) (end_of c) t s h.0 in rw (e.0, e.1, trees-fixed x k h.1, trees-fixed f r h.2) refl
 
 -- and there are these
-pub trees-exist : (f : Nodes) (n : ℕ) (a : List Piece) → AreNodes n f a → AllFormed (line f) → AreTrees f (trees f)
+pub trees-exist : (f : Nodes) (n : ℕ) (a : List Lexeme) → AreNodes n f a → AllFormed (line f) → AreTrees f (trees f)
 unfolding trees line
 trees-exist none n a h m = tt
 trees-exist (comment b p f) n a h m =

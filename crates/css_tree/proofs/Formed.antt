@@ -9,7 +9,7 @@ use Rattle.css_text.specs.Characters.{is_space, is_quote, is_single}
 use Rattle.css_text.specs.Forms.{begins, unit_len, through, through_comment, begins_url}
 use Rattle.css_text.specs.Pieces.{Unclosed, string, comment, url, closed, first, Token, cut_first, cut_after, cut, joined}
 use Rattle.css_text.specs.Ahead.{byte_len}
-use Rattle.css_tree.specs.Pieces.{Piece, Shape, shape, shape_of, located, join, end_of}
+use Rattle.css_tree.specs.Pieces.{Lexeme, Shape, shape, shape_of, located, join, end_of}
 use Rattle.css_tree.proofs.TreeOf.{inner_of}
 
 -- no text is empty
@@ -27,7 +27,7 @@ FormedBy Shape.at_name t = (t ≡ 64 ∷ drop 1 t) × HasText (drop 1 t)
 FormedBy Shape.comment t = t ≡ 47 ∷ 42 ∷ (inner_of t ++ 42 ∷ 47 ∷ [])
 FormedBy _ t = Unit {0}
 
-abbrev pub AllFormed : List Piece → Type 0
+abbrev pub AllFormed : List Lexeme → Type 0
 AllFormed [] = Unit {0}
 AllFormed (p ∷ ps) = FormedBy (shape p) p.text × HasText p.text × AllFormed ps
 
@@ -168,15 +168,15 @@ pub cut-formed : (s : List ℕ) (at : ℕ) → AllFormed (located at (cut s).tok
 unfolding cut
 cut-formed s at = located-formed (cut_after 0 s).tokens at (tokens-after s 0)
 
-pub formed-front : (xs ys : List Piece) → AllFormed (xs ++ ys) → AllFormed xs
+pub formed-front : (xs ys : List Lexeme) → AllFormed (xs ++ ys) → AllFormed xs
 formed-front [] ys h = tt
 formed-front (x ∷ xs) ys h = (h.0, h.1, formed-front xs ys h.2)
 
-pub formed-back : (xs ys : List Piece) → AllFormed (xs ++ ys) → AllFormed ys
+pub formed-back : (xs ys : List Lexeme) → AllFormed (xs ++ ys) → AllFormed ys
 formed-back [] ys h = h
 formed-back (x ∷ xs) ys h = formed-back xs ys h.2
 
-pub formed-of : (p : Piece) (s : Shape) → shape p ≡ s → FormedBy (shape p) p.text → FormedBy s p.text
+pub formed-of : (p : Lexeme) (s : Shape) → shape p ≡ s → FormedBy (shape p) p.text → FormedBy s p.text
 formed-of p s e h = subst (λ z. FormedBy z p.text) e h
 
 -- they make the text of their tokens
@@ -186,7 +186,7 @@ join-located [] at = refl
 join-located (t ∷ ts) at = ap (λ z. t.text ++ z) (join-located ts (at + byte_len t.text))
 
 -- pieces one behind another from that byte on
-abbrev pub StandAt : ℕ → List Piece → Type 0
+abbrev pub StandAt : ℕ → List Lexeme → Type 0
 StandAt at [] = Unit {0}
 StandAt at (p ∷ ps) = (p.at ≡ at) × StandAt (end_of p) ps
 

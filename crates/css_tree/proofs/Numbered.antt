@@ -1,13 +1,13 @@
 -- The nodes made so far, the open containers among them, and what is left, make the numbered list of the whole.
 use Rattle.std.proofs.Common.{◌≡◌, ℕ, suc, zero, ◌+◌, ◌<◌, List, [], ◌∷◌, ◌++◌, Option, Some, None, Bool, false, length, refl, sym, ap, append_assoc, length-append, arith}
-use Rattle.css_tree.specs.Pieces.{Piece, Shape, shape, end_of, join}
+use Rattle.css_tree.specs.Pieces.{Lexeme, Shape, shape, end_of, join}
 use Rattle.css_text.specs.declared.lexer.Span.{Span}
 use Rattle.css_tree.specs.declared.node.Block.{Block}
 use Rattle.css_tree.specs.declared.node.NodeText.{NodeText}
 use Rattle.css_tree.specs.declared.node.NodeText.TheVariants as N
 use Rattle.css_tree.specs.Tree.{Trees}
 use Rattle.css_tree.specs.Nodes.{Nodes, comment, leaf, block, ends_with_semicolon, has_piece}
-use Rattle.css_tree.specs.Fields.{span_of, first_at}
+use Rattle.css_tree.specs.Fields.{span_of, begins_at}
 use Rattle.css_tree.specs.Reads.{block_of_nodes}
 use Rattle.css_tree.specs.Numbered.{Numbered, number_after, numbered_below}
 use Rattle.css_tree.proofs.TreeOf.{trees, comment_text, comment_span, leaf_text, leaf_span, block_text, block_text_by}
@@ -33,14 +33,14 @@ alter zero h (x ∷ xs) = h x ∷ xs
 alter (suc j) h (x ∷ xs) = x ∷ alter j h xs
 
 -- a container at its end
-abbrev pub seal_root : Bool → List Piece → Numbered → Numbered
+abbrev pub seal_root : Bool → List Lexeme → Numbered → Numbered
 seal_root s a x = record x { text = with_block x.text (record { semicolon = s; after = Some (join a) }) }
 
 abbrev pub stop_at : ℕ → Option Span → Option Span
 stop_at e None = None
 stop_at e (Some sp) = Some (record sp { end = e })
 
-abbrev pub seal : Bool → List Piece → Piece → Numbered → Numbered
+abbrev pub seal : Bool → List Lexeme → Lexeme → Numbered → Numbered
 seal s a c x = record { parent = x.parent; text = with_block x.text (record { semicolon = s; after = Some (join a) }); span = stop_at (end_of c) x.span }
 
 abbrev pub top : List Open → Open
@@ -105,18 +105,18 @@ unfolding resume
 push h ns j x s s' os (finish f a) l e = one-front h ns j x s s' f (λ b. seal_root b a) l e
 push h ns j x s s' os (closed f a c r) l e = ap (λ z. resume z os r) (one-front h ns j x s s' f (λ b. seal b a c) l e)
 
-abbrev pub comment_node : ℕ → List Piece → Piece → Numbered
+abbrev pub comment_node : ℕ → List Lexeme → Lexeme → Numbered
 comment_node j g p = record { parent = j; text = comment_text g p; span = comment_span p }
 
-abbrev pub leaf_node : ℕ → List Piece → List Piece → Numbered
+abbrev pub leaf_node : ℕ → List Lexeme → List Lexeme → Numbered
 leaf_node j g r = record { parent = j; text = leaf_text g r; span = leaf_span r }
 
-pub push_comment : (ns : List Numbered) (j : ℕ) (s : Bool) (os : List Open) (g : List Piece) (p : Piece) (r : Rest) → j < length ns
+pub push_comment : (ns : List Numbered) (j : ℕ) (s : Bool) (os : List Open) (g : List Lexeme) (p : Lexeme) (r : Rest) → j < length ns
     → resume ns (record { number = j; semicolon = s } ∷ os) (map_first (comment g p) r) ≡ resume (ns ++ comment_node j g p ∷ []) (record { number = j; semicolon = s } ∷ os) r
 unfolding trees numbered_below ends_with_semicolon number_after
 push_comment ns j s os g p r l = push (comment g p) ns j (comment_node j g p) s s os r l ((λ n f. refl), (λ f. refl))
 
-pub push_leaf : (ns : List Numbered) (j : ℕ) (s : Bool) (os : List Open) (g q e : List Piece) (r : Rest) → j < length ns
+pub push_leaf : (ns : List Numbered) (j : ℕ) (s : Bool) (os : List Open) (g q e : List Lexeme) (r : Rest) → j < length ns
     → resume ns (record { number = j; semicolon = s } ∷ os) (map_first (leaf g q e) r) ≡ resume (ns ++ leaf_node j g q ∷ []) (record { number = j; semicolon = has_piece e } ∷ os) r
 unfolding trees numbered_below ends_with_semicolon number_after
 push_leaf ns j s os g q e r l = push (leaf g q e) ns j (leaf_node j g q) s (has_piece e) os r l ((λ n f. refl), (λ f. refl))
@@ -125,10 +125,10 @@ push_leaf ns j s os g q e r l = push (leaf g q e) ns j (leaf_node j g q) s (has_
 abbrev pub open_block : Block
 open_block = record { semicolon = false; after = None }
 
-abbrev pub open_node : ℕ → List Piece → List Piece → Piece → Numbered
-open_node j g r p = record { parent = j; text = block_text g r open_block; span = span_of (first_at r p) (end_of p) }
+abbrev pub open_node : ℕ → List Lexeme → List Lexeme → Lexeme → Numbered
+open_node j g r p = record { parent = j; text = block_text g r open_block; span = span_of (begins_at r p) (end_of p) }
 
-block_text-with : (g r : List Piece) (b c : Block) → with_block (block_text g r b) c ≡ block_text g r c
+block_text-with : (g r : List Lexeme) (b c : Block) → with_block (block_text g r b) c ≡ block_text g r c
 block_text-with g [] b c = refl
 block_text-with g (w ∷ r) b c = by_shape (shape w)
   where
@@ -136,15 +136,15 @@ block_text-with g (w ∷ r) b c = by_shape (shape w)
     by_shape Shape.at_name = refl
     by_shape _ = refl
 
-abbrev closed_node : ℕ → List Piece → List Piece → Piece → Nodes → List Piece → Piece → Numbered
-closed_node j g r p k a c = record { parent = j; text = block_text g r (block_of_nodes k a); span = span_of (first_at r p) (end_of c) }
+abbrev closed_node : ℕ → List Lexeme → List Lexeme → Lexeme → Nodes → List Lexeme → Lexeme → Numbered
+closed_node j g r p k a c = record { parent = j; text = block_text g r (block_of_nodes k a); span = span_of (begins_at r p) (end_of c) }
 
-seal-open : (j : ℕ) (g r : List Piece) (p : Piece) (k : Nodes) (a : List Piece) (c : Piece)
+seal-open : (j : ℕ) (g r : List Lexeme) (p : Lexeme) (k : Nodes) (a : List Lexeme) (c : Lexeme)
     → seal (ends_with_semicolon false k) a c (open_node j g r p) ≡ closed_node j g r p k a c
 seal-open j g r p k a c = rw (block_text-with g r open_block (block_of_nodes k a)) refl
 
 -- the nodes of a block, sealed
-block-nodes : (ns : List Numbered) (j : ℕ) (g r : List Piece) (p : Piece) (k : Nodes) (a : List Piece) (c : Piece)
+block-nodes : (ns : List Numbered) (j : ℕ) (g r : List Lexeme) (p : Lexeme) (k : Nodes) (a : List Lexeme) (c : Lexeme)
     → alter (length ns) (seal (ends_with_semicolon false k) a c) (ns ++ open_node j g r p ∷ []) ++ numbered_below (length ns) (length (ns ++ open_node j g r p ∷ [])) (trees k)
     ≡ ns ++ closed_node j g r p k a c ∷ numbered_below (length ns) (suc (length ns)) (trees k)
 block-nodes ns j g r p k a c =
@@ -157,7 +157,7 @@ block-length ns x k =
     omega (arith, length-append ns (x ∷ numbered_below (length ns) (suc (length ns)) (trees k)), count-length (trees k) (length ns) (suc (length ns)))
 
 -- what is left of a container with a block at its front, and that of the container with the block sealed
-block-front : (ns : List Numbered) (j : ℕ) (s : Bool) (g r : List Piece) (p : Piece) (k : Nodes) (a : List Piece) (c : Piece) (f : Nodes)
+block-front : (ns : List Numbered) (j : ℕ) (s : Bool) (g r : List Lexeme) (p : Lexeme) (k : Nodes) (a : List Lexeme) (c : Lexeme) (f : Nodes)
     (fix : Bool → Numbered → Numbered) → j < length ns
     → alter j (fix (ends_with_semicolon s (block g r p k a c f))) ns ++ numbered_below j (length ns) (trees (block g r p k a c f))
     ≡ let ms = alter (length ns) (seal (ends_with_semicolon false k) a c) (ns ++ open_node j g r p ∷ []) ++ numbered_below (length ns) (length (ns ++ open_node j g r p ∷ [])) (trees k) in
@@ -170,7 +170,7 @@ block-front ns j s g r p k a c f fix l =
     (rw (alter-append j (fix (ends_with_semicolon false f)) ns (x ∷ kids) l, block-length ns x k)
     (sym (append_assoc (alter j (fix (ends_with_semicolon false f)) ns) (x ∷ kids) (numbered_below j (number_after (suc (length ns)) (trees k)) (trees f)))))
 
-pub push_block : (ns : List Numbered) (j : ℕ) (s : Bool) (os : List Open) (g r : List Piece) (p : Piece) (k : Nodes) (a : List Piece) (c : Piece) (rest : Rest)
+pub push_block : (ns : List Numbered) (j : ℕ) (s : Bool) (os : List Open) (g r : List Lexeme) (p : Lexeme) (k : Nodes) (a : List Lexeme) (c : Lexeme) (rest : Rest)
     → j < length ns
     → resume ns (record { number = j; semicolon = s } ∷ os) (enclose g r p (closed k a c rest))
     ≡ resume (ns ++ open_node j g r p ∷ []) (record { number = length ns; semicolon = false } ∷ record { number = j; semicolon = false } ∷ os) (closed k a c rest)

@@ -8,7 +8,7 @@ use Rattle.css_text.proofs.Join.{cut_joins}
 use Rattle.css_tree.specs.declared.node.NodeText.{NodeText}
 use Rattle.css_tree.specs.declared.node.NodeText.TheVariants as N
 use Rattle.css_tree.specs.Tree.{Trees, Tree}
-use Rattle.css_tree.specs.Pieces.{Piece, pieces_of, join}
+use Rattle.css_tree.specs.Pieces.{Lexeme, pieces_of, join}
 use Rattle.css_tree.specs.Fault.{Fault, State, begin, fits, step, end_fault, fault_from, lexical_at, lexical_fault, fault}
 use Rattle.css_tree.specs.Print.{print, body, container_of}
 use Rattle.css_tree.specs.Nodes.{Nodes, line, AreNodes}
@@ -76,7 +76,7 @@ pub pieces-formed : (s : List ℕ) → AllFormed (pieces_of s)
 unfolding pieces_of
 pieces-formed s = cut-formed (without_bom s) (bom_len s)
 
-tree-prints : (s : List ℕ) (f : Nodes) (a : List Piece) → (cut (without_bom s)).fault ≡ None → AreNodes 0 f a → line f ++ a ≡ pieces_of s → AreTrees f (trees f) → print (tree_of s f a) ≡ s
+tree-prints : (s : List ℕ) (f : Nodes) (a : List Lexeme) → (cut (without_bom s)).fault ≡ None → AreNodes 0 f a → line f ++ a ≡ pieces_of s → AreTrees f (trees f) → print (tree_of s f a) ≡ s
 unfolding print body
 tree-prints s f a l h e t =
     let m : AllFormed (line f ++ a) = subst (λ z. AllFormed z) (sym e) (pieces-formed s) in
@@ -85,7 +85,7 @@ tree-prints s f a l h e t =
     ∙ (ap (λ z. (if begins_bom s then 0xfeff ∷ [] else []) ++ z) (sym (join-append (line f) a) ∙ ap join e) ∙ pieces-join s l)
 
 -- nodes of all pieces make a reading
-pub nodes-read : (s : List ℕ) (f : Nodes) (a : List Piece) → (cut (without_bom s)).fault ≡ None → AreNodes 0 f a → line f ++ a ≡ pieces_of s → Reads s (tree_of s f a)
+pub nodes-read : (s : List ℕ) (f : Nodes) (a : List Lexeme) → (cut (without_bom s)).fault ≡ None → AreNodes 0 f a → line f ++ a ≡ pieces_of s → Reads s (tree_of s f a)
 nodes-read s f a l h e =
     let m : AllFormed (line f ++ a) = subst (λ z. AllFormed z) (sym e) (pieces-formed s) in
     let t = trees-exist f 0 a h (formed-front (line f) a m) in
@@ -99,7 +99,7 @@ end-none : (l : Option Fault) (st : State) → end_fault l st ≡ None → l ≡
 end-none (Some f) st e = absurd (cc)
 end-none None st e = refl
 
-lexless : (qs : List Piece) (l : Option Fault) (st : State) → fault_from st qs l ≡ None → l ≡ None
+lexless : (qs : List Lexeme) (l : Option Fault) (st : State) → fault_from st qs l ≡ None → l ≡ None
 unfolding fault_from
 lexless [] l st e = end-none l st e
 lexless (p ∷ qs) l st e = lexless qs l (step st p) (or-none (fits st p) _ e)
@@ -115,12 +115,12 @@ fault-is s = agrees (pieces_of s) (lexical_fault s) [] [] [] []
 pub read-holds : (s : List ℕ) → Holds [] (pieces_of s) (read s)
 read-holds s = sound (pieces_of s) (lexical_fault s) [] [] [] [] tt refl
 
-finish-read : (s : List ℕ) (f : Nodes) (a : List Piece) → (cut (without_bom s)).fault ≡ None → Holds [] (pieces_of s) (ok (finish f a)) → Reads s (tree_of s f a)
+finish-read : (s : List ℕ) (f : Nodes) (a : List Lexeme) → (cut (without_bom s)).fault ≡ None → Holds [] (pieces_of s) (ok (finish f a)) → Reads s (tree_of s f a)
 unfolding line_rest
 finish-read s f a l h = nodes-read s f a l h.0 h.1
 
 -- what the reader makes of a text is its reading
-pub read-reads : (s : List ℕ) (f : Nodes) (a : List Piece) → read s ≡ ok (finish f a) → Reads s (tree_of s f a)
+pub read-reads : (s : List ℕ) (f : Nodes) (a : List Lexeme) → read s ≡ ok (finish f a) → Reads s (tree_of s f a)
 read-reads s f a e = finish-read s f a (no-lexical s (sym (fault-is s) ∙ ap fault_in e)) (subst (λ z. Holds [] (pieces_of s) z) e (read-holds s))
 
 of_outcome : (s : List ℕ) (x : Outcome) → fault_in x ≡ None → (cut (without_bom s)).fault ≡ None → Holds [] (pieces_of s) x → (t : Tree) × Reads s t

@@ -8,9 +8,9 @@ use Rattle.css_text.specs.Ahead.{byte_len, bom_len, begins_bom}
 use Rattle.css_tree.specs.declared.node.Block.{Block}
 use Rattle.css_tree.specs.declared.node.NodeText.{NodeText}
 use Rattle.css_tree.specs.Tree.{Trees}
-use Rattle.css_tree.specs.Pieces.{Piece, Shape, join, end_of, last_end, pieces_of}
+use Rattle.css_tree.specs.Pieces.{Lexeme, Shape, join, end_of, last_end, pieces_of}
 use Rattle.css_tree.specs.Nodes.{Nodes, none, comment, leaf, block, line, AreNodes}
-use Rattle.css_tree.specs.Fields.{IsComment, IsAtRule, IsDeclaration, IsLeaf, IsBlock, IsHack, begins_hack, first_at, span_of}
+use Rattle.css_tree.specs.Fields.{IsComment, IsAtRule, IsDeclaration, IsLeaf, IsBlock, IsHack, begins_hack, begins_at, span_of}
 use Rattle.css_tree.specs.Reads.{AreTrees, block_of_nodes}
 use Rattle.css_tree.specs.Numbered.{number_after}
 use Rattle.css_tree.specs.Laws.{HasTwoBytes, EachHasTwoBytes, TwoBytes, AtMostHalf}
@@ -30,24 +30,24 @@ prop-text (c ∷ []) word [] e k t = absurd (true≢false (sym (sym (ap begins_h
 prop-text (c ∷ []) word (d ∷ ds) e k t = tt
 prop-text (c ∷ d ∷ cs) word prop e k t = absurd k
 
-comment-two : (b : List Piece) (p : Piece) (t : NodeText) (sp : Option Span) → IsComment b p t sp → HasTwoBytes sp
+comment-two : (b : List Lexeme) (p : Lexeme) (t : NodeText) (sp : Option Span) → IsComment b p t sp → HasTwoBytes sp
 comment-two b p t sp h =
     let e : byte_len p.text ≡ byte_len (47 ∷ 42 ∷ (h.left ++ (h.text ++ (h.right ++ 42 ∷ 47 ∷ [])))) = ap byte_len h.all in
     let l : p.at + 2 ≤ end_of p = omega (arith, e, sum_by-cons len_utf8 47 (42 ∷ (h.left ++ (h.text ++ (h.right ++ 42 ∷ 47 ∷ [])))), sum_by-cons len_utf8 42 (h.left ++ (h.text ++ (h.right ++ 42 ∷ 47 ∷ [])))) in
     subst (λ z. HasTwoBytes z) (sym h.is_span) l
 
-comment-text : (b : List Piece) (p : Piece) (t : NodeText) (sp : Option Span) → IsComment b p t sp → 2 ≤ byte_len p.text
+comment-text : (b : List Lexeme) (p : Lexeme) (t : NodeText) (sp : Option Span) → IsComment b p t sp → 2 ≤ byte_len p.text
 comment-text b p t sp h =
     omega (arith, ap byte_len h.all, sum_by-cons len_utf8 47 (42 ∷ (h.left ++ (h.text ++ (h.right ++ 42 ∷ 47 ∷ [])))), sum_by-cons len_utf8 42 (h.left ++ (h.text ++ (h.right ++ 42 ∷ 47 ∷ []))))
 
 -- an at-word with a name
-at-word-two : (w : Piece) → FormedBy Shape.at_name w.text → 2 ≤ byte_len w.text
+at-word-two : (w : Lexeme) → FormedBy Shape.at_name w.text → 2 ≤ byte_len w.text
 at-word-two w f = let k = text-byte (drop 1 w.text) f.1 in omega (arith, ap byte_len f.0, sum_by-cons len_utf8 64 (drop 1 w.text), k)
 
-abbrev RunFormed : List Piece → Type 0
+abbrev RunFormed : List Lexeme → Type 0
 RunFormed r = AllFormed r
 
-at_rule-two : (at : ℕ) (b run : List Piece) (t : NodeText) (sp : Option Span) → IsAtRule b run None (last_end 0 run) t sp → AllFormed run → StandAt at run
+at_rule-two : (at : ℕ) (b run : List Lexeme) (t : NodeText) (sp : Option Span) → IsAtRule b run None (last_end 0 run) t sp → AllFormed run → StandAt at run
     → HasTwoBytes sp × (2 ≤ byte_len (join run))
 at_rule-two at b run t sp h m s =
     let r = h.after_name ++ (h.params ++ h.between) in
@@ -59,11 +59,11 @@ at_rule-two at b run t sp h m s =
     (subst (λ z. HasTwoBytes z) (sym h.is_span) l, omega (arith, k, ap (λ z. byte_len (join z)) h.all, ap byte_len (join-cons h.word r), bytes-append h.word.text (join r)))
 
 -- the bytes of the pieces behind a declaration's word: its colon is one
-colon-byte : (front : List Piece) (c : Piece) (rest : List Piece) → c.text ≡ 58 ∷ [] → 1 ≤ byte_len (join (front ++ c ∷ rest))
+colon-byte : (front : List Lexeme) (c : Lexeme) (rest : List Lexeme) → c.text ≡ 58 ∷ [] → 1 ≤ byte_len (join (front ++ c ∷ rest))
 colon-byte front c rest e =
     omega (arith, ap byte_len (join-append front (c ∷ rest)), bytes-append (join front) (join (c ∷ rest)), ap byte_len (join-cons c rest), bytes-append c.text (join rest), ap byte_len e)
 
-declaration-two : (at : ℕ) (b run : List Piece) (t : NodeText) (sp : Option Span) → IsDeclaration b run t sp → AllFormed run → StandAt at run
+declaration-two : (at : ℕ) (b run : List Lexeme) (t : NodeText) (sp : Option Span) → IsDeclaration b run t sp → AllFormed run → StandAt at run
     → HasTwoBytes sp × (2 ≤ byte_len (join run))
 declaration-two at b run t sp h m s =
     let r = h.front ++ h.colon ∷ (h.back ++ (h.body ++ h.tail)) in
@@ -76,29 +76,29 @@ declaration-two at b run t sp h m s =
     let l : h.word.at + length h.hack + 2 ≤ last_end (end_of h.word) r = omega (arith, e, k, c, w) in
     (subst (λ z. HasTwoBytes z) (sym h.is_span) l, omega (arith, k, c, w, ap (λ z. byte_len (join z)) h.all, ap byte_len (join-cons h.word r), bytes-append h.word.text (join r)))
 
-leaf-two : (at : ℕ) (b run : List Piece) (t : NodeText) (sp : Option Span) → IsLeaf b run t sp → AllFormed run → StandAt at run → HasTwoBytes sp × (2 ≤ byte_len (join run))
+leaf-two : (at : ℕ) (b run : List Lexeme) (t : NodeText) (sp : Option Span) → IsLeaf b run t sp → AllFormed run → StandAt at run → HasTwoBytes sp × (2 ≤ byte_len (join run))
 leaf-two at b run t sp (inl h) m s = at_rule-two at b run t sp h m s
 leaf-two at b run t sp (inr h) m s = declaration-two at b run t sp h m s
 
-block-start : (b run : List Piece) (o : Piece) (blk : Block) (end : ℕ) (t : NodeText) (sp : Option Span) → IsBlock b run o blk end t sp → sp ≡ span_of (first_at run o) end
-block-start b run o blk end t sp (inl h) = h.is_span ∙ ap (λ z. span_of (first_at z o) end) (sym h.all)
+block-start : (b run : List Lexeme) (o : Lexeme) (blk : Block) (end : ℕ) (t : NodeText) (sp : Option Span) → IsBlock b run o blk end t sp → sp ≡ span_of (begins_at run o) end
+block-start b run o blk end t sp (inl h) = h.is_span ∙ ap (λ z. span_of (begins_at z o) end) (sym h.all)
 block-start b run o blk end t sp (inr h) = h.is_span
 
-first-stands : (at : ℕ) (run rest : List Piece) (o : Piece) → StandAt at (run ++ o ∷ rest) → first_at run o ≡ at
+first-stands : (at : ℕ) (run rest : List Lexeme) (o : Lexeme) → StandAt at (run ++ o ∷ rest) → begins_at run o ≡ at
 first-stands at [] rest o h = h.0
 first-stands at (q ∷ r) rest o h = h.0
 
 -- a block's `{` and `}`
-block-two : (at : ℕ) (b run : List Piece) (o : Piece) (k a : List Piece) (d : Piece) (rest : List Piece) (blk : Block) (t : NodeText) (sp : Option Span) → IsBlock b run o blk (end_of d) t sp
+block-two : (at : ℕ) (b run : List Lexeme) (o : Lexeme) (k a : List Lexeme) (d : Lexeme) (rest : List Lexeme) (blk : Block) (t : NodeText) (sp : Option Span) → IsBlock b run o blk (end_of d) t sp
     → o.text ≡ 123 ∷ [] → d.text ≡ 125 ∷ [] → StandAt at (run ++ o ∷ (k ++ (a ++ d ∷ rest))) → HasTwoBytes sp
 block-two at b run o k a d rest blk t sp h eo ed s =
     let f = first-stands at run (k ++ (a ++ d ∷ rest)) o s in
     let so : StandAt (at + byte_len (join run)) (o ∷ (k ++ (a ++ d ∷ rest))) = stand-behind at run (o ∷ (k ++ (a ++ d ∷ rest))) s in
     let sd : StandAt (end_of o + byte_len (join (k ++ a))) (d ∷ rest) = stand-behind (end_of o) (k ++ a) (d ∷ rest) (subst (λ z. StandAt (end_of o) z) (sym (append_assoc k a (d ∷ rest))) so.1) in
-    let l : first_at run o + 2 ≤ end_of d = omega (arith, f, so.0, sd.0, ap byte_len eo, ap byte_len ed) in
+    let l : begins_at run o + 2 ≤ end_of d = omega (arith, f, so.0, sd.0, ap byte_len eo, ap byte_len ed) in
     subst (λ z. HasTwoBytes z) (sym (block-start b run o blk (end_of d) t sp h)) l
 
-pub two : (f : Nodes) (ts : Trees) (n : ℕ) (a : List Piece) (at : ℕ) → AreNodes n f a → AllFormed (line f) → AreTrees f ts → StandAt at (line f) → EachHasTwoBytes ts
+pub two : (f : Nodes) (ts : Trees) (n : ℕ) (a : List Lexeme) (at : ℕ) → AreNodes n f a → AllFormed (line f) → AreTrees f ts → StandAt at (line f) → EachHasTwoBytes ts
 unfolding line
 two none Trees.none n a at h m t st = tt
 two none (Trees.node x sp k r) n a at h m t st = absurd t
@@ -146,13 +146,13 @@ number-none : (m : ℕ) → number_after m Trees.none ≡ m
 unfolding number_after
 number-none m = refl
 
-bytes-two : (xs ys : List Piece) → byte_len (join (xs ++ ys)) ≡ byte_len (join xs) + byte_len (join ys)
+bytes-two : (xs ys : List Lexeme) → byte_len (join (xs ++ ys)) ≡ byte_len (join xs) + byte_len (join ys)
 bytes-two xs ys = ap byte_len (join-append xs ys) ∙ bytes-append (join xs) (join ys)
 
-bytes-cons : (p : Piece) (ps : List Piece) → byte_len (join (p ∷ ps)) ≡ byte_len p.text + byte_len (join ps)
+bytes-cons : (p : Lexeme) (ps : List Lexeme) → byte_len (join (p ∷ ps)) ≡ byte_len p.text + byte_len (join ps)
 bytes-cons p ps = ap byte_len (join-cons p ps) ∙ bytes-append p.text (join ps)
 
-pub half : (f : Nodes) (ts : Trees) (n : ℕ) (a : List Piece) (at m : ℕ) → AreNodes n f a → AllFormed (line f) → AreTrees f ts → StandAt at (line f)
+pub half : (f : Nodes) (ts : Trees) (n : ℕ) (a : List Lexeme) (at m : ℕ) → AreNodes n f a → AllFormed (line f) → AreTrees f ts → StandAt at (line f)
     → 2 * number_after m ts ≤ 2 * m + byte_len (join (line f))
 unfolding line
 half none Trees.none n a at m h w t st = omega (arith, number-none m)

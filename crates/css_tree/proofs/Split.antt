@@ -1,6 +1,6 @@
 -- Functions that split the pieces of a run into those of its fields.
 use Rattle.std.proofs.Common.{ℕ, List, [], ◌∷◌, ◌++◌, Bool, true, false, cond, Option, Some, None, reverse, drop}
-use Rattle.css_tree.specs.Pieces.{Piece, shape, is_blank, join}
+use Rattle.css_tree.specs.Pieces.{Lexeme, shape, is_blank, join}
 use Rattle.css_tree.specs.Mark.{is_text, mark_at, important_letters, part}
 use Rattle.css_tree.specs.Turn.{is_word_shape}
 use Rattle.css_tree.specs.Fields.{begins_hack}
@@ -36,23 +36,23 @@ unlead_by test [] = []
 unlead_by test (p ∷ ps) = cond (test p) (unlead_by test ps) (p ∷ ps)
 
 -- the same by blanks
-abbrev pub solid : List Piece → List Piece
+abbrev pub solid : List Lexeme → List Lexeme
 solid ps = solid_by is_blank ps
 
-abbrev pub tail : List Piece → List Piece
+abbrev pub tail : List Lexeme → List Lexeme
 tail ps = tail_by is_blank ps
 
-abbrev pub lead : List Piece → List Piece
+abbrev pub lead : List Lexeme → List Lexeme
 lead ps = lead_by is_blank ps
 
-abbrev pub unlead : List Piece → List Piece
+abbrev pub unlead : List Lexeme → List Lexeme
 unlead ps = unlead_by is_blank ps
 
-abbrev pub rest_of : List Piece → List Piece
+abbrev pub rest_of : List Lexeme → List Lexeme
 rest_of [] = []
 rest_of (p ∷ ps) = ps
 
-abbrev pub first_list : List Piece → List Piece
+abbrev pub first_list : List Lexeme → List Lexeme
 first_list [] = []
 first_list (p ∷ ps) = p ∷ []
 
@@ -64,37 +64,37 @@ hack_by b (c ∷ cs) = cond b (c ∷ []) []
 abbrev pub hack : List ℕ → List ℕ
 hack t = hack_by (begins_hack t) t
 
-abbrev pub is_word : Piece → Bool
+abbrev pub is_word : Lexeme → Bool
 is_word p = is_word_shape (shape p)
 
 -- what stands before the mark, and the mark
 pub record Marked : Type 0 where
-  pub front : List Piece
+  pub front : List Lexeme
   pub mark : List ℕ
 
-abbrev pub marked_two : Option ℕ → Piece → List Piece → Piece → List Piece → Option Marked
+abbrev pub marked_two : Option ℕ → Lexeme → List Lexeme → Lexeme → List Lexeme → Option Marked
 marked_two None i blanks w ws = None
 marked_two (Some n) i blanks w ws = Some (record { front = reverse ws ++ part w n; mark = drop n w.text ++ (join (reverse blanks) ++ i.text) })
 
 -- the word `important` is the last piece, behind these blanks and pieces, backwards
-abbrev pub mark_of_two : Piece → List Piece → List Piece → Option Marked
+abbrev pub mark_of_two : Lexeme → List Lexeme → List Lexeme → Option Marked
 mark_of_two i blanks [] = None
 mark_of_two i blanks (w ∷ ws) = marked_two (cond (is_word w) (mark_at false [] w.text) None) i blanks w ws
 
-abbrev pub marked_one : Option ℕ → Piece → List Piece → Option Marked
+abbrev pub marked_one : Option ℕ → Lexeme → List Lexeme → Option Marked
 marked_one (Some n) i ws = Some (record { front = reverse ws ++ part i n; mark = drop n i.text })
 marked_one None i ws = cond (is_text important_letters i.text) (mark_of_two i (lead ws) (unlead ws)) None
 
 -- of the pieces backwards
-abbrev pub mark_backwards : List Piece → Option Marked
+abbrev pub mark_backwards : List Lexeme → Option Marked
 mark_backwards [] = None
 mark_backwards (i ∷ ws) = cond (is_word i) (marked_one (mark_at false important_letters i.text) i ws) None
 
 -- the mark at the end of a value with its mark
-abbrev pub mark_of : List Piece → Option Marked
+abbrev pub mark_of : List Lexeme → Option Marked
 mark_of body = mark_backwards (reverse body)
 
-abbrev pub value_of : Option Marked → List Piece → List Piece
+abbrev pub value_of : Option Marked → List Lexeme → List Lexeme
 value_of None body = body
 value_of (Some m) body = solid m.front
 

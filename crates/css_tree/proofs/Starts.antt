@@ -12,9 +12,9 @@ use Rattle.css_tree.specs.declared.node.NodeText.TheVariants as N
 use Rattle.css_tree.specs.Tree.{Trees}
 use Rattle.css_tree.specs.Parts.{before_of}
 use Rattle.css_tree.specs.Print.{Container, container_of, before_text, opening, closing, semicolon_after, print_children, starts_children, starts_below, starts}
-use Rattle.css_tree.specs.Pieces.{Piece, Shape, join, end_of, last_end, pieces_of}
+use Rattle.css_tree.specs.Pieces.{Lexeme, Shape, join, end_of, last_end, pieces_of}
 use Rattle.css_tree.specs.Nodes.{Nodes, none, comment, leaf, block, line, AreNodes, has_piece, ends_with_semicolon}
-use Rattle.css_tree.specs.Fields.{IsComment, IsAtRule, IsDeclaration, IsLeaf, IsBlock, IsHack, begins_hack, first_at}
+use Rattle.css_tree.specs.Fields.{IsComment, IsAtRule, IsDeclaration, IsLeaf, IsBlock, IsHack, begins_hack, begins_at}
 use Rattle.css_tree.specs.Reads.{AreTrees, block_of_nodes}
 use Rattle.css_tree.specs.Laws.{span_starts, start_of, StartsAtSpans}
 use Rattle.css_tree.proofs.Formed.{AllFormed, formed-front, formed-back, formed-of, StandAt, located-stand}
@@ -25,18 +25,18 @@ pub bytes-append : (xs ys : List ℕ) → byte_len (xs ++ ys) ≡ byte_len xs + 
 bytes-append xs ys = sum_by-append len_utf8 xs ys
 
 -- where pieces end that stand one behind another
-pub ends-at : (at : ℕ) (ps : List Piece) → StandAt at ps → last_end at ps ≡ at + byte_len (join ps)
+pub ends-at : (at : ℕ) (ps : List Lexeme) → StandAt at ps → last_end at ps ≡ at + byte_len (join ps)
 ends-at at [] h = omega (arith, ap byte_len join-nil)
 ends-at at (p ∷ ps) h = omega (arith, ends-at (end_of p) ps h.1, h.0, ap byte_len (join-cons p ps), bytes-append p.text (join ps))
 
 -- the pieces behind others stand where those end
-pub stand-behind : (at : ℕ) (xs ys : List Piece) → StandAt at (xs ++ ys) → StandAt (at + byte_len (join xs)) ys
+pub stand-behind : (at : ℕ) (xs ys : List Lexeme) → StandAt at (xs ++ ys) → StandAt (at + byte_len (join xs)) ys
 stand-behind at [] ys h = subst (λ z. StandAt z ys) (let e : at ≡ at + byte_len (join []) = omega (arith, ap byte_len join-nil) in e) h
 stand-behind at (p ∷ xs) ys h =
     let e : end_of p + byte_len (join xs) ≡ at + byte_len (join (p ∷ xs)) = omega (arith, h.0, ap byte_len (join-cons p xs), bytes-append p.text (join xs)) in
     subst (λ z. StandAt z ys) e (stand-behind (end_of p) xs ys h.1)
 
-pub stand-front : (at : ℕ) (xs ys : List Piece) → StandAt at (xs ++ ys) → StandAt at xs
+pub stand-front : (at : ℕ) (xs ys : List Lexeme) → StandAt at (xs ++ ys) → StandAt at xs
 stand-front at [] ys h = tt
 stand-front at (p ∷ xs) ys h = (h.0, stand-front (end_of p) xs ys h.1)
 
@@ -52,13 +52,13 @@ text_before t = or_empty (before_of t)
 abbrev pub SpanStarts : ℕ → NodeText → Option Span → Type 0
 SpanStarts at t sp = start_of sp ≡ (at + byte_len (text_before t)) ∷ []
 
-comment-starts : (at : ℕ) (b : List Piece) (p : Piece) (t : NodeText) (sp : Option Span) → IsComment b p t sp → p.at ≡ at + byte_len (join b) → SpanStarts at t sp
+comment-starts : (at : ℕ) (b : List Lexeme) (p : Lexeme) (t : NodeText) (sp : Option Span) → IsComment b p t sp → p.at ≡ at + byte_len (join b) → SpanStarts at t sp
 comment-starts at b p t sp h e = rw (h.is_span, h.is_node) (ap (λ z. z ∷ []) e)
 
-first-stands : (at : ℕ) (b run rest : List Piece) (w : Piece) (r : List Piece) → run ≡ w ∷ r → StandAt at (b ++ (run ++ rest)) → w.at ≡ at + byte_len (join b)
+first-stands : (at : ℕ) (b run rest : List Lexeme) (w : Lexeme) (r : List Lexeme) → run ≡ w ∷ r → StandAt at (b ++ (run ++ rest)) → w.at ≡ at + byte_len (join b)
 first-stands at b run rest w r e h = (subst (λ z. StandAt (at + byte_len (join b)) (z ++ rest)) e (stand-behind at b (run ++ rest) h)).0
 
-at_rule-starts : (at : ℕ) (b run rest : List Piece) (blk : Option Block) (end : ℕ) (t : NodeText) (sp : Option Span) → IsAtRule b run blk end t sp → StandAt at (b ++ (run ++ rest)) → SpanStarts at t sp
+at_rule-starts : (at : ℕ) (b run rest : List Lexeme) (blk : Option Block) (end : ℕ) (t : NodeText) (sp : Option Span) → IsAtRule b run blk end t sp → StandAt at (b ++ (run ++ rest)) → SpanStarts at t sp
 at_rule-starts at b run rest blk end t sp h s = rw (h.is_span, h.is_node) (ap (λ z. z ∷ []) (first-stands at b run rest h.word _ h.all s))
 
 or-cases : (a b : Bool) → (a || b) ≡ true → (a ≡ true) ⊎ (b ≡ true)
@@ -78,22 +78,22 @@ hack-bytes [] word prop e k = refl
 hack-bytes (c ∷ []) word prop e k = hack-first c prop (sym (ap begins_hack e) ∙ k)
 hack-bytes (c ∷ d ∷ cs) word prop e k = absurd k
 
-declaration-starts : (at : ℕ) (b run rest : List Piece) (t : NodeText) (sp : Option Span) → IsDeclaration b run t sp → StandAt at (b ++ (run ++ rest)) → SpanStarts at t sp
+declaration-starts : (at : ℕ) (b run rest : List Lexeme) (t : NodeText) (sp : Option Span) → IsDeclaration b run t sp → StandAt at (b ++ (run ++ rest)) → SpanStarts at t sp
 declaration-starts at b run rest t sp h s =
     let w = first-stands at b run rest h.word _ h.all s in
     let k = hack-bytes h.hack h.word.text h.prop h.word_text h.hack_class in
     let e : h.word.at + length h.hack ≡ at + byte_len (join b ++ h.hack) = omega (arith, w, k, bytes-append (join b) h.hack) in
     rw (h.is_span, h.is_node) (ap (λ z. z ∷ []) e)
 
-leaf-starts : (at : ℕ) (b run rest : List Piece) (t : NodeText) (sp : Option Span) → IsLeaf b run t sp → StandAt at (b ++ (run ++ rest)) → SpanStarts at t sp
+leaf-starts : (at : ℕ) (b run rest : List Lexeme) (t : NodeText) (sp : Option Span) → IsLeaf b run t sp → StandAt at (b ++ (run ++ rest)) → SpanStarts at t sp
 leaf-starts at b run rest t sp (inl h) s = at_rule-starts at b run rest None _ t sp h s
 leaf-starts at b run rest t sp (inr h) s = declaration-starts at b run rest t sp h s
 
-opening-stands : (at : ℕ) (b run rest : List Piece) (o : Piece) → StandAt at (b ++ (run ++ o ∷ rest)) → first_at run o ≡ at + byte_len (join b)
+opening-stands : (at : ℕ) (b run rest : List Lexeme) (o : Lexeme) → StandAt at (b ++ (run ++ o ∷ rest)) → begins_at run o ≡ at + byte_len (join b)
 opening-stands at b [] rest o h = (stand-behind at b (o ∷ rest) h).0
 opening-stands at b (q ∷ r) rest o h = (stand-behind at b ((q ∷ r) ++ o ∷ rest) h).0
 
-block-starts : (at : ℕ) (b run rest : List Piece) (o : Piece) (blk : Block) (end : ℕ) (t : NodeText) (sp : Option Span) → IsBlock b run o blk end t sp
+block-starts : (at : ℕ) (b run rest : List Lexeme) (o : Lexeme) (blk : Block) (end : ℕ) (t : NodeText) (sp : Option Span) → IsBlock b run o blk end t sp
     → StandAt at (b ++ (run ++ o ∷ rest)) → SpanStarts at t sp
 block-starts at b run rest o blk end t sp (inl h) s = at_rule-starts at b run (o ∷ rest) (Some blk) end t sp h s
 block-starts at b run rest o blk end t sp (inr h) s = rw (h.is_span, h.is_node) (ap (λ z. z ∷ []) (opening-stands at b run rest o s))
@@ -118,7 +118,7 @@ none-starts at c first = refl
 before-is : (c : Container) (first : Bool) (t : NodeText) (b : List ℕ) → before_of t ≡ Some b → (before_text c first (before_of t) ≡ b) × (text_before t ≡ b)
 before-is c first t b e = (rw e refl, ap or_empty e)
 
-node-starts : (at : ℕ) (c : Container) (first : Bool) (t : NodeText) (sp : Option Span) (k r : Trees) (b : List Piece) (body inside close e : List ℕ) (s : Shows t b body) → SpanStarts at t sp
+node-starts : (at : ℕ) (c : Container) (first : Bool) (t : NodeText) (sp : Option Span) (k r : Trees) (b : List Lexeme) (body inside close e : List ℕ) (s : Shows t b body) → SpanStarts at t sp
     → print_children (container_of c.depth t k) true k ≡ inside → closing c.depth t k ≡ close → semicolon_after c t r ≡ e
     → (y z : ℕ) → y ≡ at + byte_len (join b) + byte_len body → z ≡ y + byte_len (inside ++ (close ++ e))
     → starts_children y (container_of c.depth t k) true k ≡ span_starts k → starts_children z c false r ≡ span_starts r
@@ -137,25 +137,25 @@ node-starts at c first t sp k r b body inside close e s hs hi hc he y z ey ez hk
     ∙ (ap (λ u. x ∷ (u ++ starts_children z c false r)) hk ∙ (ap (λ u. x ∷ (span_starts k ++ u)) hr
     ∙ sym (span-starts-node t sp k r x (hs ∙ ap (λ u. (at + byte_len u) ∷ []) w.1))))
 
-comment-end : (at : ℕ) (b : List Piece) (p : Piece) → at + byte_len (join (b ++ p ∷ [])) ≡ at + byte_len (join b) + byte_len p.text
+comment-end : (at : ℕ) (b : List Lexeme) (p : Lexeme) → at + byte_len (join (b ++ p ∷ [])) ≡ at + byte_len (join b) + byte_len p.text
 comment-end at b p = omega (arith, ap byte_len (join-append b (p ∷ [])), bytes-append (join b) (join (p ∷ [])), ap byte_len (join-one p))
 
-leaf-stands : (at : ℕ) (b r e : List Piece) → at + byte_len (join (b ++ (r ++ e))) ≡ at + byte_len (join b) + byte_len (join r) + byte_len (join e)
+leaf-stands : (at : ℕ) (b r e : List Lexeme) → at + byte_len (join (b ++ (r ++ e))) ≡ at + byte_len (join b) + byte_len (join r) + byte_len (join e)
 leaf-stands at b r e =
     omega (arith, ap byte_len (join-append b (r ++ e)), bytes-append (join b) (join (r ++ e)), ap byte_len (join-append r e), bytes-append (join r) (join e))
 
-inside-stands : (at : ℕ) (b r : List Piece) (o : Piece) → o.text ≡ 123 ∷ [] → at + byte_len (join (b ++ (r ++ o ∷ []))) ≡ at + byte_len (join b) + byte_len (join r ++ 123 ∷ [])
+inside-stands : (at : ℕ) (b r : List Lexeme) (o : Lexeme) → o.text ≡ 123 ∷ [] → at + byte_len (join (b ++ (r ++ o ∷ []))) ≡ at + byte_len (join b) + byte_len (join r ++ 123 ∷ [])
 inside-stands at b r o e =
     omega (arith, leaf-stands at b r (o ∷ []), ap byte_len (join-one o ∙ e), bytes-append (join r) (123 ∷ []))
 
-block-stands : (at : ℕ) (k a : List Piece) (d : Piece) → d.text ≡ 125 ∷ [] → at + byte_len (join (k ++ (a ++ d ∷ []))) ≡ at + byte_len (join k ++ ((join a ++ 125 ∷ []) ++ []))
+block-stands : (at : ℕ) (k a : List Lexeme) (d : Lexeme) → d.text ≡ 125 ∷ [] → at + byte_len (join (k ++ (a ++ d ∷ []))) ≡ at + byte_len (join k ++ ((join a ++ 125 ∷ []) ++ []))
 block-stands at k a d e =
     omega (arith, leaf-stands at k a (d ∷ []), ap byte_len (join-one d ∙ e), bytes-append (join k) ((join a ++ 125 ∷ []) ++ []), ap byte_len (append-nil (join a ++ 125 ∷ [])), bytes-append (join a) (125 ∷ []))
 
 plus-nil : (y : ℕ) → y ≡ y + byte_len ([] ++ ([] ++ []))
 plus-nil y = omega arith
 
-pub started : (f : Nodes) (ts : Trees) (a : List Piece) (n : ℕ) (c : Container) (first s : Bool) (at : ℕ)
+pub started : (f : Nodes) (ts : Trees) (a : List Lexeme) (n : ℕ) (c : Container) (first s : Bool) (at : ℕ)
     → AreNodes n f a → AllFormed (line f) → AreTrees f ts → c.semicolon ≡ ends_with_semicolon s f → StandAt at (line f) → starts_children at c first ts ≡ span_starts ts
 unfolding line ends_with_semicolon
 started none Trees.none a n c first s at h m t g st = none-starts at c first

@@ -4,7 +4,7 @@ use Rattle.css_text.specs.declared.lexer.Span.{Span}
 use Rattle.css_text.specs.Ahead.{byte_len}
 use Rattle.css_tree.specs.Tree.{Trees, none, node, Tree}
 use Rattle.css_tree.specs.Print.{print, starts}
-use Rattle.css_tree.specs.Pieces.{Piece, pieces_of}
+use Rattle.css_tree.specs.Pieces.{Lexeme, pieces_of}
 use Rattle.css_tree.specs.Fault.{Fault, State, begin, after, fits, end_fault, lexical_fault, stop, fault}
 use Rattle.css_tree.specs.Numbered.{number_after}
 use Rattle.css_tree.specs.Reads.{Reads}
@@ -53,7 +53,7 @@ abbrev pub AtMostHalf : Type 0
 AtMostHalf = (s : List ℕ) (t : Tree) → Reads s t → 2 * number_after 0 t.children ≤ byte_len s
 
 -- the fault that is found at the first of these pieces, or behind the last one
-abbrev pub found_next : State → List Piece → Option Fault → Option Fault
+abbrev pub found_next : State → List Lexeme → Option Fault → Option Fault
 found_next s [] lexical = end_fault lexical s
 found_next s (p ∷ ps) lexical = fits s p
 

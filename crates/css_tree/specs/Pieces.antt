@@ -7,30 +7,31 @@ use Rattle.css_text.specs.declared.lexer.PieceKind.TheVariants as K
 use Rattle.css_text.specs.Pieces.{Token, cut}
 use Rattle.css_text.specs.Ahead.{byte_len, bom_len, without_bom}
 
-pub record Piece : Type 0 where
+-- a piece with its characters, and the byte at which it begins
+pub record Lexeme : Type 0 where
   pub kind : PieceKind
   pub at : ℕ
   pub text : List ℕ
 
 -- pieces one behind another, of which the first begins at that byte
-abbrev pub located : ℕ → List Token → List Piece
+abbrev pub located : ℕ → List Token → List Lexeme
 located at [] = []
 located at (t ∷ ts) = record { kind = t.kind; at = at; text = t.text } ∷ located (at + byte_len t.text) ts
 
 -- the pieces of a text, or those before its first lexical fault
-unfoldable pub pieces_of : List ℕ → List Piece
+unfoldable pub pieces_of : List ℕ → List Lexeme
 pieces_of s = located (bom_len s) (cut (without_bom s)).tokens
 
 -- the text that pieces make
-unfoldable pub join : List Piece → List ℕ
+unfoldable pub join : List Lexeme → List ℕ
 join ps = flat_map (λ p. p.text) ps
 
 -- the byte behind a piece
-abbrev pub end_of : Piece → ℕ
+abbrev pub end_of : Lexeme → ℕ
 end_of p = p.at + byte_len p.text
 
 -- the byte behind pieces that begin at that byte
-abbrev pub last_end : ℕ → List Piece → ℕ
+abbrev pub last_end : ℕ → List Lexeme → ℕ
 last_end at [] = at
 last_end at (p ∷ ps) = last_end (end_of p) ps
 
@@ -70,7 +71,7 @@ shape_of K.AtWord text = at_shape text
 shape_of K.Word text = Shape.word
 shape_of K.Single text = single_shape text
 
-unfoldable pub shape : Piece → Shape
+unfoldable pub shape : Lexeme → Shape
 shape p = shape_of p.kind p.text
 
 abbrev pub is_blank_shape : Shape → Bool
@@ -79,5 +80,5 @@ is_blank_shape Shape.comment = true
 is_blank_shape _ = false
 
 -- white space or a comment
-unfoldable pub is_blank : Piece → Bool
+unfoldable pub is_blank : Lexeme → Bool
 is_blank p = is_blank_shape (shape p)

@@ -9,8 +9,8 @@ use Rattle.css_tree.specs.declared.node.NodeText.TheVariants.{Root, AtRule, Rule
 use Rattle.css_tree.specs.Tree.{Trees, none, node, Tree}
 use Rattle.css_tree.specs.Parts.{block_of, before_of, semicolon_text}
 
--- what a container says of its children: their depth, which is the number of their ancestors but the root; whether
--- its last declaration or blockless at-rule has a `;` behind it; and the `before` of its first child
+-- what a container says of its children: their depth, which is the number of their ancestors but the root, so 0 for the root's children as for
+-- the top of a loose tree; whether its last declaration or blockless at-rule has a `;` behind it; and the `before` of its first child
 pub record Container : Type 0 where
   pub depth : ℕ
   pub semicolon : Bool

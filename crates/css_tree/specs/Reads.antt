@@ -6,12 +6,12 @@ use Rattle.css_tree.specs.declared.node.Block.{Block}
 use Rattle.css_tree.specs.declared.node.NodeText.TheVariants as N
 use Rattle.css_tree.specs.Tree.{Trees, Tree}
 use Rattle.css_tree.specs.Print.{print}
-use Rattle.css_tree.specs.Pieces.{Piece, join, end_of, pieces_of}
+use Rattle.css_tree.specs.Pieces.{Lexeme, join, end_of, pieces_of}
 use Rattle.css_tree.specs.Nodes.{Nodes, none, comment, leaf, block, line, AreNodes, ends_with_semicolon}
 use Rattle.css_tree.specs.Fields.{IsComment, IsLeaf, IsBlock, span_of}
 
 -- what a container with these nodes keeps of its end
-abbrev pub block_of_nodes : Nodes → List Piece → Block
+abbrev pub block_of_nodes : Nodes → List Lexeme → Block
 block_of_nodes nodes after = record { semicolon = ends_with_semicolon false nodes; after = Some (join after) }
 
 -- the trees of these nodes, each with its fields, its raws and its span
@@ -29,7 +29,7 @@ pub record Reads (s : List ℕ) (t : Tree) : Type 0 where
   pub prints : print t ≡ s
   pub no_fault : (cut (without_bom s)).fault ≡ None
   pub nodes : Nodes
-  pub behind : List Piece
+  pub behind : List Lexeme
   pub are_nodes : AreNodes 0 nodes behind
   pub are_all : line nodes ++ behind ≡ pieces_of s
   pub are_trees : AreTrees nodes t.children

@@ -1,8 +1,8 @@
 -- Whether a call is refused.
-use Rattle.std.specs.Prelude.{Bool, List, [], ◌∷◌, Result, Ok, Err, if◌then◌else◌}
+use Rattle.std.specs.Prelude.{Bool, List, Result}
 use Rattle.node_store.specs.declared.fault.TreeFault.{TreeFault}
+use Rattle.edit_calls.specs.Plans.{plan}
 
--- the fault of the first test that holds
+-- the refusals of a plan alone, with nothing to be done
 abbrev pub checked : List (Bool × TreeFault) → Result (Unit {0}) TreeFault
-checked [] = Ok tt
-checked (r ∷ rs) = if r.0 then Err r.1 else checked rs
+checked rs = plan rs tt

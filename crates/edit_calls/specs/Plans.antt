@@ -15,10 +15,10 @@ use Rattle.node_store.specs.declared.item.Edit.TheVariants.{Set, SetRaw, New, In
 use Rattle.node_store.specs.Edits.{changes, apply_all, is_loose}
 use Rattle.node_store.specs.Copies.{copied, tree_size}
 
--- The first refusal whose test holds; without one the edits are made.
-abbrev pub plan : List (Bool × TreeFault) → List Edit → Result (List Edit) TreeFault
-plan [] edits = Ok edits
-plan (r ∷ rs) edits = if r.0 then Err r.1 else plan rs edits
+-- The first refusal whose test holds; without one what is to be done, mostly edits.
+abbrev pub plan : {X : Type 0} → List (Bool × TreeFault) → X → Result X TreeFault
+plan [] todo = Ok todo
+plan (r ∷ rs) todo = if r.0 then Err r.1 else plan rs todo
 
 -- the number was never given out
 abbrev pub is_unknown : List Node → ℕ → Bool

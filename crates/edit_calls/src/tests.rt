@@ -1,7 +1,8 @@
 // Each call where it is made, and each refusal of each call.
 use crate::laws::examples;
 use crate::making::{new_at_rule, new_comment, new_decl, new_rule};
-use crate::samples::{Call, number_of, refusal, sheet};
+use crate::samples::{Call, empty_sheet, number_of, refusal, sheet};
+use crate::setting::set_value;
 use css_tree::node::Raw;
 use node_store::fault::TreeFault;
 use node_store::id::NodeId;
@@ -157,13 +158,34 @@ fn moves(rt: HostRuntime) -> Result<(), Fail> {
     assert_eq!(rt; work.parent(id(4)), Ok(None));
     work.reserve_log(1)?;
     expect_calls(&rt, &mut work, &[Call::Remove(2)])?;
-    expect_refusals(&rt, &mut work, &[(Call::Remove(2), TreeFault::Loose)])?;
+    expect_refusals(
+        &rt,
+        &mut work,
+        &[
+            (Call::Remove(2), TreeFault::Loose),
+            (Call::InsertBefore(2, 1), TreeFault::Loose),
+        ],
+    )?;
+    Ok(())
+}
+
+// On `a{b{}}` the rule 1 can't go into its own child 2.
+#[test]
+fn refuses_a_cycle_of_two(rt: HostRuntime) -> Result<(), Fail> {
+    let mut work = empty_sheet(rt.alloc())?;
+    number_of(new_rule(&mut work, "a"))?;
+    number_of(new_rule(&mut work, "b"))?;
+    expect_calls(&rt, &mut work, &[Call::Append(0, 1), Call::Append(1, 2)])?;
+    expect_refusals(&rt, &mut work, &[(Call::Append(2, 1), TreeFault::Cycle)])?;
     Ok(())
 }
 
 #[test]
 fn sets(rt: HostRuntime) -> Result<(), Fail> {
     let mut work = sheet(rt.alloc())?;
+    let unchanged = work.log().len();
+    assert!(rt; set_value(&mut work, id(2), "c").is_ok());
+    assert_eq!(rt; work.log().len(), unchanged);
     number_of(new_at_rule(&mut work, "m", "p", true))?;
     number_of(new_comment(&mut work, "k"))?;
     let before = work.log().len();

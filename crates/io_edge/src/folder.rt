@@ -110,7 +110,9 @@ fn find<'a>(entries: &'a [Entry], name: &str) -> Option<&'a [u8]>
     None
 }
 
-/// Puts an entry before those that are there, so that it is the one that is found under its name.
+/// Puts an entry before those that are there, so that it is the one that is found under its name. An older entry of that
+/// name stays after it and is never found again: so want of memory leaves all as it was, and a folder that a run or a test
+/// writes to holds each name a few times at most.
 fn put_first(entries: &mut Vec<Entry>, entry: Entry) -> Result<(), AllocError>
     ensures ok { OnOk result (map entry_seen entries.new.items ≡ entry_seen entry ∷ map entry_seen entries.old.items) }
     ensures err { OnErr result (map entry_seen entries.new.items ≡ map entry_seen entries.old.items) }

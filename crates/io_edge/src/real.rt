@@ -1,4 +1,4 @@
-// The standard streams. They tell the count of their faults, and no bytes.
+// The standard streams. They tell the count of their faults, and no bytes: `std` doesn't say what they hold.
 ghost use Rattle.std.specs.Prelude.{None};
 
 use crate::edge::{Failed, Sink, Source, WriteStop};
@@ -74,5 +74,27 @@ impl Sink for StdErr {
 
     fn write(&mut self, piece: &[u8]) -> Result<usize, WriteStop> {
         write_to(&mut self.stream, &mut self.faults, piece)
+    }
+}
+
+#[cfg(test)]
+mod tests {
+    use super::*;
+    use crate::whole::read_all;
+    use std::test::Fail;
+
+    // The standard input of a test is empty.
+    #[test]
+    fn input_ends_at_its_first_zero(rt: HostRuntime) -> Result<(), Fail> {
+        let mut input = StdIn::new(rt.stdin());
+        assert_eq!(rt; input.faults, 0);
+        let bytes = read_all(rt.alloc(), &mut input, 9)
+            .ok()
+            .ok_or("the input's end")?;
+        assert_eq!(rt; (bytes.len(), input.faults), (0, 0));
+        let mut buf = [0u8; 4];
+        assert_eq!(rt; input.read(&mut buf).ok(), Some(0));
+        assert_eq!(rt; input.faults, 0);
+        Ok(())
     }
 }

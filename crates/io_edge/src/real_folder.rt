@@ -19,7 +19,7 @@ struct FileSource<F: Read + Drop> {
 }
 
 impl<F: Read + Drop> Source for FileSource<F> {
-    ghost left = { λ _. None };
+    ghost left = { λ s. F.remaining s.file };
 
     ghost faults = { λ s. s.faults };
 
@@ -35,7 +35,7 @@ struct FileSink<F: Write + Drop> {
 }
 
 impl<F: Write + Drop> Sink for FileSink<F> {
-    ghost written = { λ _. None };
+    ghost written = { λ s. F.contents s.file };
 
     ghost faults = { λ s. s.faults };
 

@@ -1,6 +1,7 @@
 // One read or write of a stream of the system, with its fault counted.
 ghost use Rattle.std.specs.Prelude.{◌≤◌, ◌<◌, length, IfOk};
 ghost use Rattle.std.specs.Io.{ReadsAtMost, WritesAtMost};
+ghost use Rattle.std.specs.Io.KnownBytes.{ReadConsumes, WriteAppends};
 ghost use Rattle.io_edge.specs.Causes.{HasCause, WriteCause};
 
 use crate::edge::{Failed, WriteStop};
@@ -10,8 +11,9 @@ use std::io::{ErrorKind, Read, Write};
 /// Reads once. A read that a signal interrupted is made again, as Rust's `read_to_end` does.
 fn read_once<R: Read>(stream: &mut R, buf: &mut [u8]) -> io::Result<usize>
     ensures bound { ReadsAtMost result buf.new }
+    ensures bytes { ReadConsumes (R.remaining stream.old) (R.remaining stream.new) result buf.new }
 {
-    for _ in 0..u64::MAX {
+    'tries: for _ in 0..u64::MAX {
         match stream.read(buf) {
             Err(error) if error.kind() == ErrorKind::Interrupted => {}
             answer => return answer,
@@ -23,8 +25,9 @@ fn read_once<R: Read>(stream: &mut R, buf: &mut [u8]) -> io::Result<usize>
 /// Writes once. A write that a signal interrupted is made again, as Rust's `write_all` does.
 fn write_once<W: Write>(stream: &mut W, piece: &[u8]) -> io::Result<usize>
     ensures bound { WritesAtMost result piece.now }
+    ensures bytes { WriteAppends (W.contents stream.old) (W.contents stream.new) result piece.now }
 {
-    for _ in 0..u64::MAX {
+    'tries: for _ in 0..u64::MAX {
         match stream.write(piece) {
             Err(error) if error.kind() == ErrorKind::Interrupted => {}
             answer => return answer,
@@ -36,6 +39,7 @@ fn write_once<W: Write>(stream: &mut W, piece: &[u8]) -> io::Result<usize>
 /// A read that counts its fault.
 pub fn read_from<R: Read>(stream: &mut R, faults: &mut u64, buf: &mut [u8]) -> Result<usize, Failed>
     ensures bound { ReadsAtMost result buf.new }
+    ensures bytes { ReadConsumes (R.remaining stream.old) (R.remaining stream.new) result buf.new }
     ensures cause { HasCause faults.old faults.new result }
 {
     match read_once(stream, buf) {
@@ -55,6 +59,7 @@ pub fn write_to<W: Write>(
 ) -> Result<usize, WriteStop>
     ensures bound { WritesAtMost result piece.now }
     ensures some { IfOk result (λ n. 0 < length piece.now → 0 < n) }
+    ensures bytes { WriteAppends (W.contents stream.old) (W.contents stream.new) result piece.now }
     ensures cause { WriteCause faults.old faults.new result }
 {
     match write_once(stream, piece) {

@@ -30,7 +30,8 @@ pub struct Printed {
 
 /// The text of the tree, and the starts of all nodes below the root.
 ///
-/// Fails for want of memory alone.
+/// Fails for want of memory alone, of which a text of 4 GiB (4,294,967,296 bytes) or more is a case whatever memory there is. No sheet that was
+/// read prints to that much by itself, but edits can copy nodes until it does.
 pub fn print(alloc: Global, work: &Work) -> Result<Printed, AllocError>
     ensures text { IfOk result (λ p. p.text ≡ print (tree_of work.now)) }
     ensures nodes { IfOk result (λ p. map (λ s. s.node) p.starts.items ≡ numbers_below work.now.nodes 0) }

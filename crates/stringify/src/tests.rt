@@ -99,9 +99,11 @@ fn prints(rt: HostRuntime) -> Result<(), Fail> {
         }
         Err(_) => assert!(rt; false),
     }
-    match print_node(rt.alloc(), &work, id(9)) {
-        Err(Stop::Fault(fault)) => assert_eq!(rt; fault, TreeFault::NoSuchNode),
-        _ => assert!(rt; false),
+    for unknown in [5, 9] {
+        match print_node(rt.alloc(), &work, id(unknown)) {
+            Err(Stop::Fault(fault)) => assert_eq!(rt; fault, TreeFault::NoSuchNode),
+            _ => assert!(rt; false),
+        }
     }
     Ok(())
 }
@@ -115,6 +117,50 @@ fn prints_absent_raws(rt: HostRuntime) -> Result<(), Fail> {
     entries.push_top(bare_rule(alloc, "d")?)?;
     let printed = print(alloc, &entries.work(alloc)?)?;
     assert_eq!(rt; printed.text.as_str(), "a {\n    b: c;\n}\nd {}");
+    Ok(())
+}
+
+// A later child takes the white space before the first one alone, and neither its `;` nor its `*`.
+#[test]
+fn prints_like_the_first_child(rt: HostRuntime) -> Result<(), Fail> {
+    let alloc = rt.alloc();
+    let mut entries = Entries::new(alloc, "")?;
+    entries.push_top(decl(alloc, Some(Txt::new(alloc, "\n;*")?), ":", false)?)?;
+    entries.push_top(decl(alloc, None, ":", false)?)?;
+    let printed = print(alloc, &entries.work(alloc)?)?;
+    assert_eq!(rt; printed.text.as_str(), "\n;*b:c;\nb:c");
+    Ok(())
+}
+
+#[test]
+fn prints_a_nested_node(rt: HostRuntime) -> Result<(), Fail> {
+    let alloc = rt.alloc();
+    let mut entries = Entries::new(alloc, "")?;
+    entries.push_top(at_rule(alloc, "m", "x")?)?;
+    entries.push_below(bare_rule(alloc, "a")?)?;
+    entries.push_below(bare_rule(alloc, "d")?)?;
+    entries.push_below(decl(alloc, None, ": ", false)?)?;
+    let work = entries.work(alloc)?;
+    for (n, text, starts) in [
+        (
+            2,
+            "a {\n        d {\n            b: c;\n        }\n    }",
+            [(2, 0), (3, 12), (4, 28)].as_slice(),
+        ),
+        (
+            3,
+            "d {\n            b: c;\n        }",
+            [(3, 0), (4, 16)].as_slice(),
+        ),
+    ] {
+        match print_node(alloc, &work, id(n)) {
+            Ok(printed) => {
+                assert_eq!(rt; printed.text.as_str(), text);
+                expect_starts(&rt, &printed, starts);
+            }
+            Err(_) => assert!(rt; false, "{n}"),
+        }
+    }
     Ok(())
 }
 

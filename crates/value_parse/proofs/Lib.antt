@@ -1,4 +1,5 @@
 pub mod Numbers
+pub mod NumberForms
 pub mod NumberBytes
 pub mod Steps
 pub mod Found

@@ -11,7 +11,8 @@ use Rattle.std.proofs.lemmas.List.{take-append-drop, take_all, length-drop}
 use Rattle.std.proofs.lemmas.Str.{encodes-chars}
 use Rattle.css_text.specs.declared.lexer.Span.{Span}
 use Rattle.css_text.specs.Forms.{begins}
-use Rattle.css_text.specs.ValueNumber.{digits_len, sign_len, with_digits, fraction_len, exponent_len, decimal_len, number_len, is_unit, span, number_and_unit}
+use Rattle.value_parse.specs.Number.{span}
+use Rattle.value_parse.specs.NumberLengths.{digits_len, sign_len, with_digits, fraction_len, exponent_len, decimal_len, number_len, is_unit, number_and_unit}
 use Rattle.css_text.proofs.BlockSteps.{take_split}
 use Rattle.css_text.proofs.Transport.{AllLow}
 use Rattle.css_text.proofs.AsciiTests.{encodes-low, low_same}

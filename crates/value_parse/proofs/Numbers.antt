@@ -6,7 +6,7 @@ use Rattle.std.specs.Char.{is_ascii_alphabetic}
 use Rattle.std.proofs.lemmas.List.{drop-drop}
 use Rattle.std.proofs.lemmas.Bool.{ne_eqb}
 use Rattle.std.proofs.lemmas.Bool.Decides.{nat_tests}
-use Rattle.css_text.specs.ValueNumber.{digits_len, sign_len, with_digits, fraction_len, exponent_len, decimal_len, number_len, is_unit}
+use Rattle.value_parse.specs.NumberLengths.{digits_len, sign_len, with_digits, fraction_len, exponent_len, decimal_len, number_len, is_unit}
 use Rattle.css_text.proofs.Steps.{begins-drop}
 
 pub sign_len-at : (s : List ℕ) (i : ℕ) → sign_len (drop i s) ≡ cond (eqb (get_or s i 0) 43 || eqb (get_or s i 0) 45) 1 0

@@ -1,8 +1,8 @@
 -- Small values and their parts, and words and their numbers.
-use Rattle.std.specs.Prelude.{◌≡◌, ℕ, true, false, List, [], Some, None, codes}
+use Rattle.std.specs.Prelude.{ℕ, true, false, List, [], Some, None, codes}
 use Rattle.css_text.specs.declared.lexer.PieceKind.{PieceKind}
 use Rattle.css_text.specs.declared.lexer.PieceKind.TheVariants.{Space, Comment, Quoted, Url, Word, Single}
-use Rattle.css_text.specs.ValueNumber.{span, number_and_unit}
+use Rattle.value_parse.specs.Number.{span, TellsNumber}
 use Rattle.css_text.specs.ValueParts.{ValueParts, none, value, plain, function, IsValue}
 
 abbrev leaf : PieceKind → ℕ → List ℕ → ValueParts → ValueParts
@@ -28,9 +28,10 @@ Names = IsValue (codes "() a\\((") (value function 0 [] none true (leaf Space 2 
 abbrev pub Forms : Type 0
 Forms = IsValue (codes "/*/") (leaf Comment 0 (codes "/*/") none) × IsValue (codes "'a\\'") (leaf Quoted 0 (codes "'a\\'") none) × IsValue (codes "url( x") (leaf Url 0 (codes "url( x") none)
 
+-- the bytes of the number and those of its unit
 abbrev pub Numbers : Type 0
-Numbers = (number_and_unit (codes "-.5E3px") ≡ Some (span 0 5, span 5 7)) × (number_and_unit (codes "1em") ≡ Some (span 0 1, span 1 3)) × (number_and_unit (codes "0") ≡ Some (span 0 1, span 1 1))
-    × (number_and_unit (codes "+1.50e-2%") ≡ Some (span 0 8, span 8 9)) × (number_and_unit (codes "1e") ≡ Some (span 0 1, span 1 2))
+Numbers = TellsNumber (codes "-.5E3px") (Some (span 0 5, span 5 7)) × TellsNumber (codes "1em") (Some (span 0 1, span 1 3)) × TellsNumber (codes "0") (Some (span 0 1, span 1 1))
+    × TellsNumber (codes "+1.50e-2%") (Some (span 0 8, span 8 9)) × TellsNumber (codes "1e") (Some (span 0 1, span 1 2))
 
 abbrev pub NoNumbers : Type 0
-NoNumbers = (number_and_unit (codes "1.") ≡ None) × (number_and_unit (codes "e3") ≡ None) × (number_and_unit (codes "1e+") ≡ None) × (number_and_unit (codes "-") ≡ None) × (number_and_unit (codes "1%%") ≡ None)
+NoNumbers = TellsNumber (codes "1.") None × TellsNumber (codes "e3") None × TellsNumber (codes "1e+") None × TellsNumber (codes "-") None × TellsNumber (codes "1%%") None

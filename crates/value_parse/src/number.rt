@@ -3,7 +3,8 @@ ghost use Rattle.std.specs.Prelude.{◌≡◌, ◌==◌, ◌&&◌, ◌+◌, ◌-
 ghost use Rattle.std.specs.Char.{is_ascii_alphabetic};
 ghost use Rattle.std.specs.List.{list_all};
 ghost use Rattle.std.specs.Str.{chars};
-ghost use Rattle.css_text.specs.ValueNumber.{digits_len, sign_len, with_digits as with_digits_of, fraction_len, exponent_len, number_len, is_unit as is_unit_of, number_and_unit as number_and_unit_of};
+ghost use Rattle.value_parse.specs.NumberLengths.{digits_len, sign_len, with_digits as with_digits_of, fraction_len, exponent_len, number_len, is_unit as is_unit_of};
+ghost use Rattle.value_parse.specs.Number.{TellsNumber};
 
 use css_text::lexer::Span;
 use css_text::scan::byte_at;
@@ -118,7 +119,7 @@ fn is_unit(s: &[u8]) -> bool
 /// A number is an optional sign, digits with an optional fraction or a fraction alone, and an optional exponent, as in CSS;
 /// a unit is `%`, ASCII letters, or nothing. An `e` without digits behind it begins the unit.
 pub fn number_and_unit(word: &str) -> Option<(Span, Span)>
-    ensures { result ≡ number_and_unit_of (chars word.now) }
+    ensures { TellsNumber (chars word.now) result }
 {
     let s = word.as_bytes();
     let end = number_end(s);

@@ -40,4 +40,4 @@ returns-clause-places c = (refl, refl, refl, refl)
 
 pub returns-clause-rule : goal.returns-clause-rule
 unfolding is_space is_quote is_single ends_word begins_url first cut pieces
-returns-clause-rule c = refl
+returns-clause-rule c = (refl, refl)

@@ -1,8 +1,11 @@
-use Rattle.std.proofs.Common.{◌≡◌, ◌<◌, ℕ, [], ◌∷◌, refl, lit<, arith}
+use Rattle.std.proofs.Common.{◌≡◌, ◌<◌, ℕ, [], ◌∷◌, Some, None, refl, lit<, arith}
+use Rattle.std.specs.Prelude.{codes}
 use Rattle.css_text.specs.Characters.{is_space, is_quote, is_single}
 use Rattle.css_text.specs.Forms.{begins_url}
 use Rattle.css_text.specs.ValueParts.{ends_value, first_part}
-use Rattle.css_text.specs.ValueNumber.{sign_len, with_digits, fraction_len, exponent_len, decimal_len, number_len, is_unit, number_and_unit}
+use Rattle.value_parse.specs.NumberLengths.{sign_len, with_digits, fraction_len, exponent_len, decimal_len, number_len, is_unit, number_and_unit}
+use Rattle.value_parse.specs.Number.{span}
+use Rattle.value_parse.proofs.NumberForms.{told}
 use Rattle.value_parse.proofs.laws.examples.Goals as goal
 
 other : (c d : ℕ) → d < c → c ∷ [] ≡ d ∷ [] → ⊥
@@ -46,8 +49,20 @@ returns-clause-forms c = (
 
 pub returns-clause-numbers : goal.returns-clause-numbers
 unfolding sign_len with_digits fraction_len exponent_len decimal_len number_len is_unit number_and_unit
-returns-clause-numbers c = (refl, refl, refl, refl, refl)
+returns-clause-numbers c = (
+  told (codes "-.5E3px") (Some (span 0 5, span 5 7)) refl,
+  told (codes "1em") (Some (span 0 1, span 1 3)) refl,
+  told (codes "0") (Some (span 0 1, span 1 1)) refl,
+  told (codes "+1.50e-2%") (Some (span 0 8, span 8 9)) refl,
+  told (codes "1e") (Some (span 0 1, span 1 2)) refl,
+)
 
 pub returns-clause-no_numbers : goal.returns-clause-no_numbers
 unfolding sign_len with_digits fraction_len exponent_len decimal_len number_len is_unit number_and_unit
-returns-clause-no_numbers c = (refl, refl, refl, refl, refl)
+returns-clause-no_numbers c = (
+  told (codes "1.") None refl,
+  told (codes "e3") None refl,
+  told (codes "1e+") None refl,
+  told (codes "-") None refl,
+  told (codes "1%%") None refl,
+)

@@ -1,5 +1,5 @@
 use Rattle.std.proofs.Common.{◌≡◌, ◌+◌, ◌-◌, ◌≤◌, length, drop}
-use Rattle.css_text.specs.ValueNumber.{digits_len}
+use Rattle.value_parse.specs.NumberLengths.{digits_len}
 use Rattle.value_parse.proofs.number.digits_end.Given as goal
 
 abbrev pub invariant-loop-i : goal.invariant-loop-i

@@ -1,9 +1,11 @@
--- Numbers with a unit, as `-.5E3px`. All that the grammar takes is ASCII, so its lengths count characters and bytes alike.
+-- The number at the start of a word by lengths, with which definitions compute: that it is what the grammar (Number) tells is a law. All that it
+-- takes is ASCII, so lengths count characters and bytes alike.
 use Rattle.std.specs.Prelude.{ℕ, ◌+◌, Bool, not, ◌==◌, ◌&&◌, ◌||◌, if◌then◌else◌, List, length, drop, Option, Some, None}
 use Rattle.std.specs.Char.{is_ascii_digit, is_ascii_alphabetic}
 use Rattle.std.specs.List.{prefix_len, list_all}
 use Rattle.css_text.specs.declared.lexer.Span.{Span}
 use Rattle.css_text.specs.Forms.{begins}
+use Rattle.value_parse.specs.Number.{span}
 
 -- the longest run of digits
 abbrev pub digits_len : List ℕ → ℕ
@@ -39,9 +41,6 @@ number_len s =
 -- `%`, or ASCII letters, or nothing
 unfoldable pub is_unit : List ℕ → Bool
 is_unit s = (length s == 1 && begins 37 s) || list_all is_ascii_alphabetic s
-
-abbrev pub span : ℕ → ℕ → Span
-span start end = record { start = start; end = end }
 
 -- The number at the start of a word and the unit that is the rest of it, or None where the word isn't both.
 unfoldable pub number_and_unit : List ℕ → Option (Span × Span)
