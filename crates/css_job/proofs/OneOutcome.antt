@@ -7,7 +7,6 @@ use Rattle.std.specs.Io.KnownBytes.{Appends}
 use Rattle.css_tree.specs.Tree.{Tree}
 use Rattle.node_rows.specs.Nodes.{Node}
 use Rattle.node_store.specs.declared.item.Item.{Item}
-use Rattle.node_store.specs.Forest.{Forest}
 use Rattle.plugin_api.specs.Shelf.{PluginSeen}
 use Rattle.visitor_machine.specs.Hooks.{PickedHook}
 use Rattle.visitor_machine.specs.Machine.{State}
@@ -78,19 +77,19 @@ reached log end nodes = record { log = log; end = end; nodes = nodes }
 
 -- two walks of one text, with the same hooks and budgets, whose visitors have the same duties
 module _ (a b : List PluginSeen) (hs : List PickedHook) (budget most : ℕ) (s : List ℕ) (r q : Reached) (same : SameDuties a b) (own : All (HasDuty a) hs) (x : Walked hs budget most a s r) (y : Walked hs budget most b s q) where
-  forest_same : x.made.forest ≡ y.made.forest
-  forest_same = one_fresh x.made.forest y.made.forest x.made.is_fresh y.made.is_fresh (x.made.of ∙ sym y.made.of)
+  nodes_same : x.made.forest.nodes ≡ y.made.forest.nodes
+  nodes_same = one_fresh x.made.forest y.made.forest x.made.is_fresh y.made.is_fresh (x.made.of ∙ sym y.made.of)
 
   log_and_end : (r.log ≡ q.log) × (r.end ≡ q.end)
   log_and_end =
-      let w = subst (λ (f : Forest). EndedWalk b hs budget most f.nodes q.log q.end) (sym forest_same) (ended_walk hs budget most b s q y) in
+      let w = subst (λ ns. EndedWalk b hs budget most ns q.log q.end) (sym nodes_same) (ended_walk hs budget most b s q y) in
       one_log hs budget most x.made.forest.nodes a b r.log q.log r.end q.end same own (ended_walk hs budget most a s r x) w
 
   state_same : x.made.state ≡ y.made.state
   state_same =
       some_same
       (sym x.made.run
-      ∙ (ap (λ (f : Forest). follow hs most (start hs f.nodes) r.log) forest_same
+      ∙ (ap (λ ns. follow hs most (start hs ns) r.log) nodes_same
       ∙ (ap (follow hs most (start hs y.made.forest.nodes)) log_and_end.0 ∙ y.made.run)))
 
   reached_same : r ≡ q

@@ -158,7 +158,7 @@ next_bounded hs most ns log s m z q e n =
 -- a fresh forest has the nodes of its text's tree
 pub fresh_length : (f : Forest) (h : IsFresh f) (t : Tree) → Reads f.text t → length f.nodes ≡ length (numbered t)
 fresh_length f h t r =
-    ap (λ x. length x.nodes) h.is_forest
+    ap length h.are_nodes
     ∙ (nodes_of-length h.entries
     ∙ (sym (length-map h.entries numbered_of)
     ∙ (ap length h.are_numbered ∙ ap (λ x. length (numbered x)) (tree.one_reading f.text h.tree t h.reads r))))

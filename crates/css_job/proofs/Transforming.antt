@@ -21,7 +21,7 @@ use Rattle.css_job.specs.Stated.{Heard, IsCutLog, names_of}
 use Rattle.css_job.specs.Stages.{plan_seen, CutOff, Planned}
 use Rattle.css_job.specs.declared.plan.Plan as P
 use Rattle.css_job.proofs.Unheard.{hears_whole, hears_cut, hears_less}
-use Rattle.css_job.proofs.Freshly.{fresh_log, fresh_dirty}
+use Rattle.css_job.proofs.Freshly.{fresh_dirty}
 
 module _ (f g : Forest) (sound : IsForest f) (fresh : IsFresh f) (old new : List PluginSeen) (o : Options) (budget most : ℕ) (calls : budget ≡ budget_for o.budget fresh.tree) (edits : most ≡ budget_for o.edit_budget fresh.tree)
     (picked : List ℕ) (places : picked ≡ o.picked) (r : Result WalkEnd AllocError) (walks : Walks f g old new picked budget most r) where
@@ -46,7 +46,7 @@ module _ (f g : Forest) (sound : IsForest f) (fresh : IsFresh f) (old new : List
 
   -- the log was empty before the walk
   from_start : (v : Result WalkEnd AllocError) (w : Asked v) → Hears v 0 w.items old new
-  from_start v w = subst (λ n. Hears v n w.items old new) (ap length (fresh_log f fresh)) w.hears
+  from_start v w = subst (λ n. Hears v n w.items old new) (ap length fresh.no_log) w.hears
 
   -- the walk wanted memory
   pub cut_walk : (e : AllocError) → r ≡ Err e → CutOff old new (Some (Transform o)) f.text
@@ -70,7 +70,7 @@ module _ (f g : Forest) (sound : IsForest f) (fresh : IsFresh f) (old new : List
   module _ (end : WalkEnd) (is : r ≡ Ok end) (plan : P.Plan) (log : Vec Item Global) (h : Forest) (xs : List Item) (names : List (List ℕ)) (taken : log.items ≡ g.log) (left : h ≡ record g { log = []; spare = 0 })
       (lent : xs ≡ log.items) (named : names ≡ names_of new) (planned : plan_seen plan ≡ walk_plan o.trace names most (record { log = xs; end = end; nodes = h.nodes })) where
     log_is : (w : Asked (Ok end)) → log.items ≡ w.items
-    log_is w = taken ∙ (w.log ∙ ap (λ x. x ++ w.items) (fresh_log f fresh))
+    log_is w = taken ∙ (w.log ∙ ap (λ x. x ++ w.items) fresh.no_log)
 
     plan_is : (w : Asked (Ok end)) → plan_seen plan ≡ walk_plan o.trace (names_of old) (budget_for o.edit_budget fresh.tree) (reached_by end w)
     plan_is w =

@@ -6,8 +6,8 @@ use Rattle.std.proofs.lemmas.Str.{is_utf8-from_IsUtf8}
 use Rattle.css_tree.specs.Tree.{Tree}
 use Rattle.css_tree.specs.Reads.{Reads}
 use Rattle.css_tree.proofs.Reading as tree
+use Rattle.node_rows.specs.Nodes.{Node}
 use Rattle.node_store.specs.declared.item.Item.{Item}
-use Rattle.node_store.specs.Forest.{Forest}
 use Rattle.visitor_machine.specs.Hooks.{PickedHook}
 use Rattle.visitor_machine.specs.Machine.{State}
 use Rattle.visitor_machine.specs.Follow.{follow, start}
@@ -59,10 +59,10 @@ some_none : {A B : Type 0} (o : Option A) (x : A) → o ≡ Some x → o ≡ Non
 some_none o x e f = let h = sym e ∙ f in absurd (cc)
 
 -- the state of a run of these hooks under that budget of edits
-abbrev Follows : List PickedHook → ℕ → Forest → List Item → State → Type 0
-Follows hs most f log s = follow hs most (start hs f.nodes) log ≡ Some s
+abbrev Follows : List PickedHook → ℕ → List Node → List Item → State → Type 0
+Follows hs most ns log s = follow hs most (start hs ns) log ≡ Some s
 
-same_state : (hs : List PickedHook) (most : ℕ) (f : Forest) (log : List Item) (s t : State) → Follows hs most f log s → Follows hs most f log t → s ≡ t
+same_state : (hs : List PickedHook) (most : ℕ) (ns : List Node) (log : List Item) (s t : State) → Follows hs most ns log s → Follows hs most ns log t → s ≡ t
 same_state hs most f log s t a b = let e : Some s ≡ Some t = sym a ∙ b in cc
 
 module _ (asked : Asked) (a c : Snapshot) (e : Ended) (h : Ends asked a c e) where
@@ -114,16 +114,16 @@ module _ (asked : Asked) (a c : Snapshot) (e : Ended) (h : Ends asked a c e) whe
       pub tree_same : of.tree ≡ t.tree
       tree_same = tree.one_reading (chars h.bytes) of.tree t.tree of.reads reads_of
 
-      pub forest_same : of.run.forest ≡ walk_of.made.forest
-      forest_same = one_fresh of.run.forest walk_of.made.forest of.run.is_fresh walk_of.made.is_fresh (of.run.of ∙ sym walk_of.made.of)
+      pub nodes_same : of.run.forest.nodes ≡ walk_of.made.forest.nodes
+      nodes_same = one_fresh of.run.forest walk_of.made.forest of.run.is_fresh walk_of.made.is_fresh (of.run.of ∙ sym walk_of.made.of)
 
       pub state_same : of.run.state ≡ walk_of.made.state
       state_same =
-          let r0 : Follows (picked_hooks asked.shelf of.options.picked) (budget_for of.options.edit_budget of.tree) of.run.forest h.reached.log of.run.state = of.run.run in
-          let r1 = subst (λ o. Follows (picked_hooks asked.shelf o.picked) (budget_for o.edit_budget of.tree) of.run.forest h.reached.log of.run.state) options_same r0 in
-          let r2 = subst (λ v. Follows hooks (budget_for t.options.edit_budget v) of.run.forest h.reached.log of.run.state) tree_same r1 in
-          let r3 = subst (λ f. Follows hooks edit_budget f h.reached.log of.run.state) forest_same r2 in
-          same_state hooks edit_budget walk_of.made.forest h.reached.log of.run.state walk_of.made.state r3 walk_of.made.run
+          let r0 : Follows (picked_hooks asked.shelf of.options.picked) (budget_for of.options.edit_budget of.tree) of.run.forest.nodes h.reached.log of.run.state = of.run.run in
+          let r1 = subst (λ o. Follows (picked_hooks asked.shelf o.picked) (budget_for o.edit_budget of.tree) of.run.forest.nodes h.reached.log of.run.state) options_same r0 in
+          let r2 = subst (λ v. Follows hooks (budget_for t.options.edit_budget v) of.run.forest.nodes h.reached.log of.run.state) tree_same r1 in
+          let r3 = subst (λ ns. Follows hooks edit_budget ns h.reached.log of.run.state) nodes_same r2 in
+          same_state hooks edit_budget walk_of.made.forest.nodes h.reached.log of.run.state walk_of.made.state r3 walk_of.made.run
 
     -- the walk's end is the one that its log tells
     pub end_is : (end : WalkEnd) → walk.Ends end hooks call_budget edit_budget walk_of.made.state h.reached.log → h.reached.end ≡ end

@@ -16,7 +16,6 @@ use Rattle.visitor_walk.specs.declared.walk_end.WalkEnd.{WalkEnd}
 use Rattle.visitor_walk.specs.Picked.{picked_hooks}
 use Rattle.visitor_walk.specs.Walk.{Walks}
 use Rattle.css_job.specs.Walked.{KeepsText}
-use Rattle.css_job.proofs.Freshly.{fresh_log}
 
 abbrev pub IsNoEdit : Item → Type 0
 IsNoEdit i = (e : Edit) → i ≡ I.Edit e → ⊥
@@ -59,6 +58,6 @@ not_quiet (i ∷ is) (suc k) d e b g q = not_quiet is k d e (omega arith) g (qui
 -- The walk began with the fresh forest of the text, and its log is taken.
 pub keeps_text : (f g h : Forest) (sound : IsForest f) (fresh : IsFresh f) (old new : List PluginSeen) (picked : List ℕ) (budget most : ℕ) (r : Result WalkEnd AllocError) (log xs : List Item) → Walks f g old new picked budget most r → log ≡ g.log → h ≡ record g { log = []; spare = 0 } → xs ≡ log → KeepsText xs h
 keeps_text f g h sound fresh old new picked budget most r log xs w taken left lent q =
-    let items : xs ≡ w.items = lent ∙ (taken ∙ (w.log ∙ ap (λ x. x ++ w.items) (fresh_log f fresh))) in
+    let items : xs ≡ w.items = lent ∙ (taken ∙ (w.log ∙ ap (λ x. x ++ w.items) fresh.no_log)) in
     let kept : print (tree_at w.state.nodes 0) ≡ f.text = quiet_sheet (picked_hooks old picked) most f w.items w.state sound fresh (subst IsQuiet items q) w.run in
     ap (λ x. print (tree_of x)) left ∙ (ap (λ ns. print (tree_at ns 0)) w.nodes ∙ (kept ∙ (sym w.text ∙ sym (ap (λ x. x.text) left))))

@@ -44,7 +44,7 @@ use Rattle.css_job.proofs.Ways.{Turned, Printed, walk_by}
 use Rattle.css_job.proofs.Causes.{told, not_lint, took_whole, cause_of, unfaulty, its_answer}
 use Rattle.css_job.proofs.PickedCalls.{each_from_all, called_place, start_stays}
 use Rattle.css_job.proofs.Quiet.{quiet_edits, next_bounded, fresh_length, quiet_run}
-use Rattle.css_job.proofs.Turns.{same_options, has_turn, no_log, work_turn, hooks, call_budget, edit_budget, walk_of, log_of, is_log, options_same, tree_same, forest_same, state_same, end_is}
+use Rattle.css_job.proofs.Turns.{same_options, has_turn, no_log, work_turn, hooks, call_budget, edit_budget, walk_of, log_of, is_log, options_same, tree_same, nodes_same, state_same, end_is}
 
 -- what a visitor said grew by what the log holds of it
 grew_by : (i j : ℕ) (log : List Item) (text : List ℕ) (old new : Option HookSeen) → Heard {A = Unit {0}} (Ok tt) i j 0 log old new → IsSome old → said_of i j false log ≡ text ∷ [] → Grew text old new
@@ -230,7 +230,7 @@ module _ (asked : Asked) (a c : Snapshot) (e : Ended) (h : Ends asked a c e) whe
       let w = walk_of asked a c e h t in
       let end = end_is asked a c e h t W.Done (sym (ap (λ z. z.stage) (state_same asked a c e h t of)) ∙ s) in
       let r3 : SettlesAt (hooks asked a c e h t) (edit_budget asked a c e h t) w.made.forest.nodes h.reached.log = w.settled end in
-      let r2 = subst (λ f. SettlesAt (hooks asked a c e h t) (edit_budget asked a c e h t) f.nodes h.reached.log) (sym (forest_same asked a c e h t of)) r3 in
+      let r2 = subst (λ ns. SettlesAt (hooks asked a c e h t) (edit_budget asked a c e h t) ns h.reached.log) (sym (nodes_same asked a c e h t of)) r3 in
       let r1 = subst (λ v. SettlesAt (hooks asked a c e h t) (budget_for t.options.edit_budget v) of.run.forest.nodes h.reached.log) (sym (tree_same asked a c e h t of)) r2 in
       subst (λ o. SettlesAt (picked_hooks asked.shelf o.picked) (budget_for o.edit_budget of.tree) of.run.forest.nodes h.reached.log) (sym (options_same asked a c e h t of)) r1
 

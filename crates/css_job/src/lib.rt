@@ -4,10 +4,14 @@
 mod asked;
 mod carry_out;
 mod command;
+#[cfg(test)]
+mod failing_tests;
 pub mod fault;
 mod input;
 pub mod laws;
 pub mod lint;
+#[cfg(test)]
+mod lint_tests;
 mod plan;
 #[cfg(test)]
 mod plugin_tests;
@@ -16,5 +20,7 @@ mod prepared;
 pub mod run;
 mod target;
 #[cfg(test)]
-mod tests;
+mod test_runs;
 pub mod transform;
+#[cfg(test)]
+mod transform_tests;

@@ -1,5 +1,5 @@
 // Runs of `transform` with the shipped plugins.
-use crate::tests::{NONE, Outcome, run_on};
+use crate::test_runs::{NONE, Outcome, USAGE, expect, run_on};
 use plugin_api::fn_visitor::FnVisitor;
 use plugin_api::recorder::Recorder;
 use plugin_api::visitor::Visitor;
@@ -15,8 +15,6 @@ const EMPTIED: &str =
 const UNNESTED: &str =
     "pass\nenter 0\nenter 1\nenter 2\nleave 2\nenter 3\nenter 4\nleave 4\ncall unnest/0 RuleExit 3\nback\nleave 3\ncall unnest/0 RuleExit 1\nedit set 3 selector\nedit remove 3\nedit insert 3 under 0 at 1\nback\nleave 1\nenter 3\nenter 4\nleave 4\ncall unnest/0 RuleExit 3\nback\nleave 3\nleave 0\npass\nenter 0\nenter 1\ncall unnest/0 RuleExit 1\nback\nleave 1\nleave 0\nend\n";
 
-const USAGE: &str = "usage: csswork transform|lint|sample\n";
-
 // A run, what it takes, and what comes of it.
 #[derive(Clone, Copy)]
 struct Row {
@@ -30,12 +28,6 @@ struct Row {
 fn run_shipped(alloc: Global, row: Row, visitors: Visitors) -> Result<Outcome, AllocError> {
     let mut shelf = shipped(alloc, visitors)?;
     run_on(alloc, row.words, row.input.as_bytes(), NONE, &mut shelf)
-}
-
-fn expect(rt: &impl Abort, outcome: &Outcome, status: u8, out: &str, err: &str) {
-    assert_eq!(rt; outcome.ended.status, status, "{err}");
-    assert_eq!(rt; outcome.out.bytes(), out.as_bytes(), "{err}");
-    assert_eq!(rt; outcome.err.bytes(), err.as_bytes(), "{err}");
 }
 
 fn expect_shipped(rt: &impl Abort, alloc: Global, row: Row) -> Result<(), Fail> {
@@ -67,12 +59,19 @@ fn expect_shipped(rt: &impl Abort, alloc: Global, row: Row) -> Result<(), Fail> 
         unnest,
     };
     let outcome = run_shipped(alloc, row, visitors)?;
-    expect(rt, &outcome, row.status, row.out, row.err);
+    expect(rt, &outcome, row.status, row.out.as_bytes(), row.err);
+    Ok(())
+}
+
+fn expect_all(rt: &impl Abort, alloc: Global, rows: &[Row]) -> Result<(), Fail> {
+    for row in rows {
+        expect_shipped(rt, alloc, *row)?;
+    }
     Ok(())
 }
 
 #[test]
-fn shipped_plugins(rt: HostRuntime) -> Result<(), Fail> {
+fn traced(rt: HostRuntime) -> Result<(), Fail> {
     let rows = [
         Row {
             words: &["transform", "--use", "drop-empty", "--trace"],
@@ -88,6 +87,13 @@ fn shipped_plugins(rt: HostRuntime) -> Result<(), Fail> {
             out: "a{b:c}a:hover{d:e}",
             err: UNNESTED,
         },
+    ];
+    expect_all(&rt, rt.alloc(), &rows)
+}
+
+#[test]
+fn named(rt: HostRuntime) -> Result<(), Fail> {
+    let rows = [
         Row {
             words: &["transform", "--use", "short-hex,drop-comment"],
             input: "a{b:#AAbbcc url(#aabbcc)}/*x*//*!k*/",
@@ -102,6 +108,13 @@ fn shipped_plugins(rt: HostRuntime) -> Result<(), Fail> {
             out: "",
             err: USAGE,
         },
+    ];
+    expect_all(&rt, rt.alloc(), &rows)
+}
+
+#[test]
+fn budgets(rt: HostRuntime) -> Result<(), Fail> {
+    let rows = [
         Row {
             words: &["transform", "--use", "drop-empty", "--edit-budget", "1"],
             input: "a{}",
@@ -117,10 +130,23 @@ fn shipped_plugins(rt: HostRuntime) -> Result<(), Fail> {
             err: "csswork: edit budget of 0 passed with 1 edits at RuleExit 1\n",
         },
     ];
-    for row in rows {
-        expect_shipped(&rt, rt.alloc(), row)?;
-    }
-    Ok(())
+    expect_all(&rt, rt.alloc(), &rows)
+}
+
+fn expect_unnested(
+    rt: &impl Abort,
+    alloc: Global,
+    input: &'static str,
+    out: &'static str,
+) -> Result<(), Fail> {
+    let row = Row {
+        words: &["transform", "--use", "unnest"],
+        input,
+        status: 0,
+        out,
+        err: "",
+    };
+    expect_shipped(rt, alloc, row)
 }
 
 // Where a rule's children are moved out of it, and where they stay.
@@ -136,14 +162,7 @@ fn unnested(rt: HostRuntime) -> Result<(), Fail> {
         ("a/*x*/b{&:c{}}", "a/*x*/b{}ab:c{}"),
         ("{&:b{}}", "{&:b{}}"),
     ] {
-        let row = Row {
-            words: &["transform", "--use", "unnest"],
-            input,
-            status: 0,
-            out,
-            err: "",
-        };
-        expect_shipped(&rt, rt.alloc(), row)?;
+        expect_unnested(&rt, rt.alloc(), input, out)?;
     }
     Ok(())
 }

@@ -59,8 +59,7 @@ impl Link {
     }
 }
 
-/// A span, or none, in eight bytes. A clause sees the span.
-// The highest number of 32 bits as the start stands for none.
+/// A span, or none, in eight bytes: the highest number of 32 bits as the start stands for none. A clause sees the span.
 #[derive(Drop)]
 pub struct PackedSpan {
     start: u32,

@@ -62,13 +62,12 @@ fn forest(alloc: Global) -> Result<Rows, AllocError> {
 }
 
 fn expect_children(rt: &impl Abort, rows: &Rows, n: u32, want: &[u32]) {
-    if (n as usize) < rows.len() {
-        assert_eq!(rt; rows.child_count(n) as usize, want.len());
-        for (at, child) in want.iter().enumerate() {
-            assert_eq!(rt; rows.child_at(n, at), Some(*child));
-        }
-        assert_eq!(rt; rows.first_child(n), want.first().copied());
+    assert!(rt; (n as usize) < rows.len());
+    assert_eq!(rt; rows.child_count(n) as usize, want.len());
+    for (at, child) in want.iter().enumerate() {
+        assert_eq!(rt; rows.child_at(n, at), Some(*child));
     }
+    assert_eq!(rt; rows.first_child(n), want.first().copied());
 }
 
 #[test]
@@ -129,14 +128,13 @@ fn reads(rt: HostRuntime) -> Result<(), Fail> {
         (2, None, None, true),
         (3, Some(1), None, false),
     ] {
-        if n < rows.len() as u32 {
-            assert_eq!(rt; rows.previous_sibling(n), before);
-            assert_eq!(rt; rows.next_sibling(n), after);
-            assert_eq!(rt; rows.holds(1, n), held);
-            assert_eq!(rt; rows.is_below_root(n), true);
-            assert_eq!(rt; rows.span(n).is_none(), true);
-            assert_eq!(rt; has_raw(rows.text(n), Raw::Between, ""), true);
-        }
+        assert!(rt; n < rows.len() as u32);
+        assert_eq!(rt; rows.previous_sibling(n), before);
+        assert_eq!(rt; rows.next_sibling(n), after);
+        assert_eq!(rt; rows.holds(1, n), held);
+        assert_eq!(rt; rows.is_below_root(n), true);
+        assert_eq!(rt; rows.span(n).is_none(), true);
+        assert_eq!(rt; has_raw(rows.text(n), Raw::Between, ""), true);
     }
     Ok(())
 }
@@ -151,9 +149,9 @@ fn follows(rt: HostRuntime) -> Result<(), Fail> {
         (0, 3, None),
         (1, 2, None),
     ] {
-        if (m as usize) < rows.len() && (top as usize) < rows.len() && rows.holds(top, m) {
-            assert_eq!(rt; rows.follower(top, m), want);
-        }
+        assert!(rt; (m as usize) < rows.len() && (top as usize) < rows.len());
+        assert!(rt; rows.holds(top, m));
+        assert_eq!(rt; rows.follower(top, m), want);
     }
     Ok(())
 }
@@ -161,17 +159,15 @@ fn follows(rt: HostRuntime) -> Result<(), Fail> {
 fn expect_dirty(rt: &impl Abort, rows: &Rows, want: &[bool]) {
     rows.facts();
     for (n, dirty) in want.iter().enumerate() {
-        if n < rows.len() {
-            assert_eq!(rt; rows.is_dirty(n as u32), *dirty);
-        }
+        assert!(rt; n < rows.len());
+        assert_eq!(rt; rows.is_dirty(n as u32), *dirty);
     }
 }
 
-fn clean_all(rows: &mut Rows) {
+fn clean_all(rt: &impl Abort, rows: &mut Rows) {
     for n in 0..4 {
-        if (n as usize) < rows.len() {
-            rows.set_dirty(n, false);
-        }
+        assert!(rt; (n as usize) < rows.len());
+        rows.set_dirty(n, false);
     }
 }
 
@@ -179,16 +175,14 @@ fn clean_all(rows: &mut Rows) {
 fn marks(rt: HostRuntime) -> Result<(), Fail> {
     let mut rows = forest(rt.alloc())?;
     expect_dirty(&rt, &rows, &[true, true, true, true]);
-    clean_all(&mut rows);
-    if rows.len() > 2 {
-        rows.mark(2);
-        expect_dirty(&rt, &rows, &[true, true, true, false]);
-    }
-    clean_all(&mut rows);
-    if rows.len() > 2 {
-        rows.dirty_tree(1);
-        expect_dirty(&rt, &rows, &[false, true, true, false]);
-    }
+    clean_all(&rt, &mut rows);
+    assert!(rt; rows.len() > 2);
+    rows.mark(2);
+    expect_dirty(&rt, &rows, &[true, true, true, false]);
+    clean_all(&rt, &mut rows);
+    assert!(rt; rows.len() > 2);
+    rows.dirty_tree(1);
+    expect_dirty(&rt, &rows, &[false, true, true, false]);
     Ok(())
 }
 
@@ -196,21 +190,19 @@ fn marks(rt: HostRuntime) -> Result<(), Fail> {
 fn changes(rt: HostRuntime) -> Result<(), Fail> {
     let alloc = rt.alloc();
     let mut rows = forest(alloc)?;
-    if rows.len() > 2 {
-        let text = Written::new(alloc, Field::Selector, "x/*y*/")?;
-        rows.set_field(1, Field::Selector, text);
-        for (text, want) in [("x", true), ("x/*y*/", true), ("x/*z*/", false)] {
-            assert_eq!(rt;
-                has_field(alloc, rows.text(1), Field::Selector, text)?,
-                want
-            );
-        }
+    assert!(rt; rows.len() > 2);
+    let text = Written::new(alloc, Field::Selector, "x/*y*/")?;
+    rows.set_field(1, Field::Selector, text);
+    for (text, want) in [("x", true), ("x/*y*/", true), ("x/*z*/", false)] {
+        assert_eq!(rt;
+            has_field(alloc, rows.text(1), Field::Selector, text)?,
+            want
+        );
     }
-    if rows.len() > 2 {
-        rows.set_raw(2, Raw::Semicolon, Txt::new(alloc, ";")?);
-        assert_eq!(rt; has_raw(rows.text(2), Raw::Semicolon, ";"), true);
-        assert_eq!(rt; has_raw(rows.text(2), Raw::Semicolon, ""), false);
-    }
+    assert!(rt; rows.len() > 2);
+    rows.set_raw(2, Raw::Semicolon, Txt::new(alloc, ";")?);
+    assert_eq!(rt; has_raw(rows.text(2), Raw::Semicolon, ";"), true);
+    assert_eq!(rt; has_raw(rows.text(2), Raw::Semicolon, ""), false);
     Ok(())
 }
 
@@ -257,29 +249,26 @@ fn reads_a_list(rt: HostRuntime) -> Result<(), Fail> {
     let alloc = rt.alloc();
     let mut list = listed(alloc)?;
     assert_eq!(rt; list.len(), 4);
-    if list.len() == 4 {
-        list.set_end(1, 9);
-        let after = Some(Txt::new(alloc, "/")?);
-        list.set_block(
-            1,
-            Block {
-                semicolon: true,
-                after,
-            },
-        );
-    }
+    list.set_end(1, 9);
+    let after = Some(Txt::new(alloc, "/")?);
+    list.set_block(
+        1,
+        Block {
+            semicolon: true,
+            after,
+        },
+    );
     let rows = list.into_rows();
     expect_children(&rt, &rows, 0, &[1, 3]);
     expect_children(&rt, &rows, 1, &[2]);
     for (n, selector, closed, end) in [(0, "", false, 1), (1, "a", true, 9), (2, "b", false, 1)] {
-        if (n as usize) < rows.len() {
-            assert_eq!(rt;
-                has_field(alloc, rows.text(n), Field::Selector, selector)?,
-                true
-            );
-            assert_eq!(rt; has_raw(rows.text(n), Raw::After, "/"), closed);
-            assert_eq!(rt; rows.span(n).map_or(0, |span| span.end), end);
-        }
+        assert!(rt; (n as usize) < rows.len());
+        assert_eq!(rt;
+            has_field(alloc, rows.text(n), Field::Selector, selector)?,
+            true
+        );
+        assert_eq!(rt; has_raw(rows.text(n), Raw::After, "/"), closed);
+        assert_eq!(rt; rows.span(n).map_or(0, |span| span.end), end);
     }
     Ok(())
 }

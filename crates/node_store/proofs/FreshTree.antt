@@ -236,5 +236,4 @@ listed_tree (e ∷ es) t s h =
 
 pub fresh_tree : (f : Forest) → IsForest f → (h : IsFresh f) → tree_of f ≡ h.tree
 fresh_tree f i h =
-    let e : f.nodes ≡ nodes_of h.entries = ap (λ g. g.nodes) h.is_forest in
-    ap (λ ns. tree_at ns 0) e ∙ listed_tree h.entries h.tree (subst IsSound e i.sound) h.are_numbered
+    ap (λ ns. tree_at ns 0) h.are_nodes ∙ listed_tree h.entries h.tree (subst IsSound h.are_nodes i.sound) h.are_numbered

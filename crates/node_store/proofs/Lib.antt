@@ -13,3 +13,5 @@ pub mod CopyPlan
 pub mod CopyLaw
 pub mod Pushes
 pub mod FreshTree
+pub mod StaysFresh
+pub mod SameCursors

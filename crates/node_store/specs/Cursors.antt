@@ -67,6 +67,22 @@ next_dirty_of f serial = answer_of f (is_dirty f.nodes) (cursor_at f.cursors ser
 abbrev pub after_next_dirty : Forest → ℕ → Forest
 after_next_dirty f serial = after_of f (is_dirty f.nodes) serial (cursor_at f.cursors serial)
 
+-- the forests differ at most in the lists that their cursors stand in
+pub record SameCursors (f g : Forest) : Type 0 where
+  pub cursors : (serial : ℕ) → cursor_at f.cursors serial ≡ cursor_at g.cursors serial
+  pub rest : record f { cursors = [] } ≡ record g { cursors = [] }
+
+-- the forests' cursors answer alike, and the forests after it have the same cursors
+pub record AnswerAlike (f g : Forest) : Type 0 where
+  pub next : (serial : ℕ) → next_of f serial ≡ next_of g serial
+  pub next_dirty : (serial : ℕ) → next_dirty_of f serial ≡ next_dirty_of g serial
+  pub after_next : (serial : ℕ) → SameCursors (after_next f serial) (after_next g serial)
+  pub after_next_dirty : (serial : ℕ) → SameCursors (after_next_dirty f serial) (after_next_dirty g serial)
+
+-- cursors are the same where each serial's is
+abbrev pub CursorsAreSame : Type 0
+CursorsAreSame = (f g : Forest) → SameCursors f g → AnswerAlike f g
+
 -- The cursor is closed; all others stand.
 pub record IsClosed (before after : Forest) (serial : ℕ) : Type 0 where
   pub cursors : (other : ℕ) → cursor_at after.cursors other ≡ cursor_at (with_cursor before.cursors serial None) other

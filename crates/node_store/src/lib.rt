@@ -3,6 +3,8 @@
 
 pub mod boxed_text;
 pub mod copies;
+#[cfg(test)]
+mod copy_tests;
 pub mod copying;
 pub mod cursors;
 pub mod edits;
@@ -20,3 +22,5 @@ mod tests;
 #[cfg(test)]
 mod trees;
 pub mod work;
+
+pub use node_rows::node_list::NodeAt;

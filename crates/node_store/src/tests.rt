@@ -1,13 +1,12 @@
-// Edits, cursors, the log and copies, each call once where it is allowed.
-ghost use Rattle.std.specs.Prelude.{◌≡◌};
-
+// Edits, cursors and the log, each call once where it is allowed.
+use crate::cursors::Cursor;
 use crate::fault::TreeFault;
 use crate::id::NodeId;
 use crate::item::{Edit, Item};
-use crate::laws::{copies_can, examples, fresh_tree};
+use crate::laws::{copies_can, cursors_are_same, examples, fresh_tree, stays_fresh};
 use crate::parts;
 use crate::trees::{
-    at_rule, comment, declaration, empty_sheet, make, put, reserve, rule, set, shape, take,
+    comment, declaration, empty_sheet, id, make, put, reserve, rule, set, shape, take,
 };
 use crate::work::Work;
 use css_text::stop::Stop;
@@ -15,12 +14,6 @@ use css_tree::node::{Field, Raw};
 use std::alloc::{AllocError, Global};
 use std::process::Abort;
 use std::test::Fail;
-
-fn id(number: u32) -> NodeId
-    ensures { result ≡ number }
-{
-    NodeId::new(number)
-}
 
 // The tree of `a{b:c}`: 1 is the rule, and 2 the declaration.
 fn sheet(alloc: Global) -> Result<Work, AllocError> {
@@ -30,6 +23,29 @@ fn sheet(alloc: Global) -> Result<Work, AllocError> {
     put(&mut work, id(0), 0, id(1))?;
     put(&mut work, id(1), 0, id(2))?;
     Ok(work)
+}
+
+// The same, with a loose comment, 3.
+fn sheet_and_comment(alloc: Global) -> Result<Work, AllocError> {
+    let mut work = sheet(alloc)?;
+    make(&mut work, comment(alloc, "k")?)?;
+    Ok(work)
+}
+
+fn expect_put(
+    rt: &impl Abort,
+    work: &mut Work,
+    parent: u32,
+    at: u32,
+    node: u32,
+) -> Result<(), AllocError> {
+    assert_eq!(rt; put(work, id(parent), at, id(node))?, true);
+    Ok(())
+}
+
+fn expect_take(rt: &impl Abort, work: &mut Work, node: u32, want: bool) -> Result<(), AllocError> {
+    assert_eq!(rt; take(work, id(node))?, want);
+    Ok(())
 }
 
 #[test]
@@ -46,172 +62,200 @@ fn faults(rt: HostRuntime) -> Result<(), Fail> {
     ] {
         assert_eq!(rt; format!(in rt.alloc(); "{fault}")?.as_str(), want);
     }
+    Ok(())
+}
+
+#[test]
+fn laws(_rt: HostRuntime) -> Result<(), Fail> {
     fresh_tree();
+    stays_fresh();
+    cursors_are_same();
     copies_can();
     examples();
     Ok(())
 }
 
+fn expect_place(rt: &impl Abort, work: &Work, node: u32, want: Option<u32>) {
+    assert_eq!(rt; work.place(id(node)), Ok(want));
+}
+
 #[test]
 fn places(rt: HostRuntime) -> Result<(), Fail> {
+    let mut work = sheet_and_comment(rt.alloc())?;
+    expect_place(&rt, &work, 3, None);
+    expect_put(&rt, &mut work, 1, 1, 3)?;
+    expect_place(&rt, &work, 3, Some(1));
+    expect_take(&rt, &mut work, 2, true)?;
+    expect_take(&rt, &mut work, 2, false)?;
+    expect_place(&rt, &work, 3, Some(0));
+    Ok(())
+}
+
+fn expect_previous(
+    rt: &impl Abort,
+    work: &Work,
+    node: u32,
+    want: Result<Option<NodeId>, TreeFault>,
+) {
+    assert_eq!(rt; work.previous_sibling(id(node)), want);
+}
+
+fn expect_holds(rt: &impl Abort, work: &Work, top: u32, node: u32, want: bool) {
+    assert!(rt; top < work.node_total() && node < work.node_total());
+    assert_eq!(rt; work.holds(id(top), id(node)), want);
+}
+
+#[test]
+fn relatives(rt: HostRuntime) -> Result<(), Fail> {
+    let mut work = sheet_and_comment(rt.alloc())?;
+    expect_put(&rt, &mut work, 1, 1, 3)?;
+    expect_previous(&rt, &work, 3, Ok(Some(id(2))));
+    expect_previous(&rt, &work, 9, Err(TreeFault::NoSuchNode));
+    assert_eq!(rt; work.node_total(), 4);
+    expect_holds(&rt, &work, 1, 3, true);
+    expect_holds(&rt, &work, 3, 1, false);
+    Ok(())
+}
+
+fn expect_logged(rt: &impl Abort, work: &Work, items: usize) {
+    assert_eq!(rt; work.log().len(), items);
+}
+
+fn expect_set(
+    rt: &impl Abort,
+    work: &mut Work,
+    node: u32,
+    text: &str,
+    want: bool,
+) -> Result<(), AllocError> {
+    assert_eq!(rt; set(work, id(node), Field::Value, text)?, want);
+    Ok(())
+}
+
+fn expect_tail_set(rt: &impl Abort, work: &mut Work, tail: &str) -> Result<(), AllocError> {
+    assert_eq!(rt; shape(work, id(2), Raw::Tail, tail)?, true);
+    Ok(())
+}
+
+// A text that is set again is no edit.
+#[test]
+fn texts_that_stay(rt: HostRuntime) -> Result<(), Fail> {
     let mut work = sheet(rt.alloc())?;
-    make(&mut work, comment(rt.alloc(), "k")?)?;
-    assert_eq!(rt; work.place(id(3)), Ok(None));
-    assert_eq!(rt; put(&mut work, id(1), 1, id(3))?, true);
-    assert_eq!(rt; work.place(id(3)), Ok(Some(1)));
-    assert_eq!(rt; work.previous_sibling(id(3)), Ok(Some(id(2))));
-    assert_eq!(rt; work.previous_sibling(id(9)), Err(TreeFault::NoSuchNode));
-    if work.node_total() == 4 {
-        assert_eq!(rt; work.holds(id(1), id(3)), true);
-        assert_eq!(rt; work.holds(id(3), id(1)), false);
+    expect_logged(&rt, &work, 4);
+    expect_set(&rt, &mut work, 2, "c", true)?;
+    expect_tail_set(&rt, &mut work, "7")?;
+    expect_logged(&rt, &work, 4);
+    Ok(())
+}
+
+fn expect_texts(rt: &impl Abort, work: &Work, value: &str, tail: &str) {
+    assert_eq!(rt; work.value(id(2)), Ok(value));
+    assert_eq!(rt; work.raw(id(2), Raw::Tail), Ok(Some(tail)));
+}
+
+#[test]
+fn texts_that_change(rt: HostRuntime) -> Result<(), Fail> {
+    let mut work = sheet(rt.alloc())?;
+    expect_set(&rt, &mut work, 2, "d/**/", true)?;
+    expect_texts(&rt, &work, "d", "7");
+    expect_tail_set(&rt, &mut work, " ")?;
+    expect_texts(&rt, &work, "d", " ");
+    expect_logged(&rt, &work, 6);
+    expect_set(&rt, &mut work, 1, "c", false)?;
+    Ok(())
+}
+
+fn cursor_in(work: &mut Work, node: u32) -> Result<Cursor, Fail> {
+    Ok(work.open_each(id(node)).ok().ok_or("a cursor")?)
+}
+
+fn expect_next(rt: &impl Abort, work: &mut Work, cursor: &Cursor, want: Option<NodeId>) {
+    assert_eq!(rt; work.next(cursor), Ok(want));
+}
+
+fn expect_closed(rt: &impl Abort, work: &mut Work, cursor: Cursor) {
+    assert_eq!(rt; work.close(cursor), Ok(()));
+}
+
+#[test]
+fn a_declaration_has_no_cursor(rt: HostRuntime) -> Result<(), Fail> {
+    match sheet(rt.alloc())?.open_each(id(2)) {
+        Err(Stop::Fault(fault)) => assert_eq!(rt; fault, TreeFault::WrongKind),
+        _ => assert!(rt; false),
     }
-    assert_eq!(rt; take(&mut work, id(2))?, true);
-    assert_eq!(rt; take(&mut work, id(2))?, false);
-    assert_eq!(rt; work.place(id(3)), Ok(Some(0)));
     Ok(())
 }
 
 #[test]
-fn texts(rt: HostRuntime) -> Result<(), Fail> {
+fn a_cursor_in_an_empty_rule(rt: HostRuntime) -> Result<(), Fail> {
     let mut work = sheet(rt.alloc())?;
-    let before = work.log().len();
-    assert_eq!(rt; set(&mut work, id(2), Field::Value, "c")?, true);
-    assert_eq!(rt; shape(&mut work, id(2), Raw::Tail, "7")?, true);
-    assert_eq!(rt; work.log().len(), before);
-    assert_eq!(rt; set(&mut work, id(2), Field::Value, "d/**/")?, true);
-    assert_eq!(rt; work.value(id(2)), Ok("d"));
-    assert_eq!(rt; shape(&mut work, id(2), Raw::Tail, " ")?, true);
-    assert_eq!(rt; work.raw(id(2), Raw::Tail), Ok(Some(" ")));
-    assert_eq!(rt; work.log().len(), before + 2);
-    assert_eq!(rt; set(&mut work, id(1), Field::Value, "c")?, false);
+    expect_take(&rt, &mut work, 2, true)?;
+    let cursor = cursor_in(&mut work, 1)?;
+    expect_next(&rt, &mut work, &cursor, None);
+    expect_closed(&rt, &mut work, cursor);
     Ok(())
 }
 
-fn expect_next(
-    rt: &impl Abort,
-    work: &mut Work,
-    cursor: &crate::cursors::Cursor,
-    want: &[Option<u32>],
-) {
-    for number in want {
-        match work.next(cursor) {
-            Ok(Some(node)) => assert_eq!(rt; Some(node.number()), *number),
-            Ok(None) => assert_eq!(rt; None, *number),
-            Err(_) => assert!(rt; false),
-        }
-    }
+fn pass_all(rt: &impl Abort, work: &mut Work, cursor: &Cursor) {
+    expect_next(rt, work, cursor, Some(id(2)));
+    expect_next(rt, work, cursor, None);
+    expect_next(rt, work, cursor, None);
+}
+
+// The comment goes before what the cursor has passed, and the declaration behind it.
+fn move_both(rt: &impl Abort, work: &mut Work, cursor: &Cursor) -> Result<(), AllocError> {
+    expect_put(rt, work, 1, 0, 3)?;
+    expect_next(rt, work, cursor, None);
+    expect_take(rt, work, 2, true)?;
+    expect_put(rt, work, 1, 1, 2)
 }
 
 #[test]
 fn cursors(rt: HostRuntime) -> Result<(), Fail> {
-    let mut work = sheet(rt.alloc())?;
-    match work.open_each(id(2)) {
-        Err(Stop::Fault(fault)) => assert_eq!(rt; fault, TreeFault::WrongKind),
-        _ => assert!(rt; false),
-    }
-    if let Ok(cursor) = work.open_each(id(1)) {
-        expect_next(&rt, &mut work, &cursor, &[Some(2), None, None]);
-        make(&mut work, comment(rt.alloc(), "k")?)?;
-        put(&mut work, id(1), 0, id(3))?;
-        expect_next(&rt, &mut work, &cursor, &[None]);
-        take(&mut work, id(2))?;
-        put(&mut work, id(1), 1, id(2))?;
-        assert_eq!(rt; work.next_dirty(&cursor), Ok(Some(id(2))));
-        assert_eq!(rt; work.close(cursor), Ok(()));
-    }
-    make(&mut work, rule(rt.alloc(), "e")?)?;
-    if let Ok(cursor) = work.open_each(id(4)) {
-        expect_next(&rt, &mut work, &cursor, &[None]);
-        assert_eq!(rt; work.close(cursor), Ok(()));
-    }
+    let mut work = sheet_and_comment(rt.alloc())?;
+    let cursor = cursor_in(&mut work, 1)?;
+    pass_all(&rt, &mut work, &cursor);
+    move_both(&rt, &mut work, &cursor)?;
+    assert_eq!(rt; work.next_dirty(&cursor), Ok(Some(id(2))));
+    expect_closed(&rt, &mut work, cursor);
     Ok(())
+}
+
+fn expect_dirty(rt: &impl Abort, work: &Work, node: u32, want: bool) {
+    assert_eq!(rt; work.is_dirty(id(node)), Ok(want));
+}
+
+// Notes that a pass began, and that the node was entered.
+fn note_entered(rt: &impl Abort, work: &mut Work, node: u32) -> Result<(), AllocError> {
+    work.note(Item::Pass)?;
+    assert!(rt; node < work.node_total());
+    work.note(Item::Enter(id(node)))
 }
 
 #[test]
 fn logs(rt: HostRuntime) -> Result<(), Fail> {
     let mut work = sheet(rt.alloc())?;
     assert_eq!(rt; work.take_log().len(), 4);
-    work.note(Item::Pass)?;
-    if work.node_total() == 3 {
-        work.note(Item::Enter(id(1)))?;
-    }
-    assert_eq!(rt; work.is_dirty(id(1)), Ok(false));
-    assert_eq!(rt; work.log().len(), 2);
+    note_entered(&rt, &mut work, 1)?;
+    expect_dirty(&rt, &work, 1, false);
+    expect_logged(&rt, &work, 2);
+    Ok(())
+}
+
+#[test]
+fn room_for_an_edit(rt: HostRuntime) -> Result<(), Fail> {
+    let mut work = sheet(rt.alloc())?;
+    note_entered(&rt, &mut work, 1)?;
     work.reserve_log(2)?;
     assert_eq!(rt; reserve(&mut work, id(0))?, true);
-    assert_eq!(rt; take(&mut work, id(1))?, true);
-    assert_eq!(rt; put(&mut work, id(0), 0, id(1))?, true);
-    assert_eq!(rt; work.is_dirty(id(1)), Ok(true));
+    expect_take(&rt, &mut work, 1, true)?;
+    expect_put(&rt, &mut work, 0, 0, 1)?;
+    expect_dirty(&rt, &work, 1, true);
     Ok(())
 }
 
-// 1 is an at-rule with a rule, 2, which holds a declaration, 3, and a comment, 4.
-fn every_kind(alloc: Global) -> Result<Work, AllocError> {
-    let mut work = empty_sheet(alloc)?;
-    make(&mut work, at_rule(alloc, "m", "p")?)?;
-    make(&mut work, rule(alloc, "a")?)?;
-    make(&mut work, declaration(alloc, "b", "c")?)?;
-    make(&mut work, comment(alloc, "k")?)?;
-    put(&mut work, id(2), 0, id(3))?;
-    put(&mut work, id(2), 1, id(4))?;
-    put(&mut work, id(1), 0, id(2))?;
-    Ok(work)
-}
-
-#[test]
-fn copies(rt: HostRuntime) -> Result<(), Fail> {
-    let mut work = every_kind(rt.alloc())?;
-    if work.node_total() == 5 {
-        match work.copy_tree(id(1)) {
-            Ok(copy) => assert_eq!(rt; copy, id(5)),
-            Err(_) => assert!(rt; false),
-        }
-    }
-    assert_eq!(rt; work.log().len(), 7 + 7);
-    for (node, parent) in [
-        (5, None),
-        (6, Some(id(5))),
-        (7, Some(id(6))),
-        (8, Some(id(6))),
-    ] {
-        assert_eq!(rt; work.parent(id(node)), Ok(parent));
-    }
-    for (node, raw) in [
-        (1, Raw::Before),
-        (1, Raw::AfterName),
-        (1, Raw::Between),
-        (1, Raw::After),
-    ] {
-        assert_eq!(rt; work.raw(id(node + 4), raw), work.raw(id(node), raw));
-    }
-    for (node, raw) in [
-        (2, Raw::Semicolon),
-        (2, Raw::After),
-        (3, Raw::Important),
-        (3, Raw::Tail),
-    ] {
-        assert_eq!(rt; work.raw(id(node + 4), raw), work.raw(id(node), raw));
-    }
-    for (node, raw) in [(4, Raw::Before), (4, Raw::Left), (4, Raw::Right)] {
-        assert_eq!(rt; work.raw(id(node + 4), raw), work.raw(id(node), raw));
-    }
-    match &work.log()[work.log().len() - 1] {
-        Item::Edit(Edit::Insert { node, parent, at }) => assert_eq!(rt;
-            (*node, *parent, *at),
-            (id(8), id(6), 1)
-        ),
-        _ => assert!(rt; false),
-    }
-    Ok(())
-}
-
-#[test]
-fn logs_set_texts(rt: HostRuntime) -> Result<(), Fail> {
-    let mut work = empty_sheet(rt.alloc())?;
-    make(&mut work, rule(rt.alloc(), "a")?)?;
-    set(&mut work, id(1), Field::Selector, "b")?;
-    shape(&mut work, id(1), Raw::Between, " ")?;
-    match work.log() {
+fn expect_texts_set(rt: &impl Abort, log: &[Item]) {
+    match log {
         [
             _,
             Item::Edit(Edit::Set { field, node, text }),
@@ -229,14 +273,20 @@ fn logs_set_texts(rt: HostRuntime) -> Result<(), Fail> {
         }
         _ => assert!(rt; false),
     }
-    Ok(())
 }
 
 #[test]
-fn logs_a_new_node(rt: HostRuntime) -> Result<(), Fail> {
+fn logs_set_texts(rt: HostRuntime) -> Result<(), Fail> {
     let mut work = empty_sheet(rt.alloc())?;
-    make(&mut work, comment(rt.alloc(), "k")?)?;
-    match work.log() {
+    make(&mut work, rule(rt.alloc(), "a")?)?;
+    set(&mut work, id(1), Field::Selector, "b")?;
+    shape(&mut work, id(1), Raw::Between, " ")?;
+    expect_texts_set(&rt, work.log());
+    Ok(())
+}
+
+fn expect_comment_made(rt: &impl Abort, log: &[Item]) {
+    match log {
         [Item::Edit(Edit::New { node, text, span })] => {
             assert_eq!(rt; *node, id(1));
             assert_eq!(rt; parts::field(text.as_text(), Field::Text), Some("k"));
@@ -244,5 +294,12 @@ fn logs_a_new_node(rt: HostRuntime) -> Result<(), Fail> {
         }
         _ => assert!(rt; false),
     }
+}
+
+#[test]
+fn logs_a_new_node(rt: HostRuntime) -> Result<(), Fail> {
+    let mut work = empty_sheet(rt.alloc())?;
+    assert_eq!(rt; make(&mut work, comment(rt.alloc(), "k")?)?, Some(id(1)));
+    expect_comment_made(&rt, work.log());
     Ok(())
 }

@@ -16,6 +16,13 @@ use css_tree::node::{Block, Field, Kind, NodeText, Raw, Source};
 use node_rows::node_list::NodeAt;
 use std::alloc::{AllocError, Global};
 
+/// The node of that number.
+pub fn id(number: u32) -> NodeId
+    ensures { result ≡ number }
+{
+    NodeId::new(number)
+}
+
 fn empty_text(alloc: Global) -> Result<Text, AllocError>
     ensures { IfOk result (λ text. text ≡ []) }
 {

@@ -1,4 +1,4 @@
--- A text has at most one fresh forest.
+-- Fresh forests of one text have the same nodes.
 use Rattle.std.proofs.Common.{◌≡◌, ℕ, List, [], ◌∷◌, Some, map, refl, ap, sym, ◌∙◌, subst}
 use Rattle.css_text.specs.declared.lexer.Span.{Span}
 use Rattle.css_tree.specs.declared.node.NodeText.{NodeText}
@@ -6,8 +6,8 @@ use Rattle.css_tree.specs.Reads.{Reads}
 use Rattle.css_tree.specs.Numbered.{numbered}
 use Rattle.css_tree.proofs.Reading.{one_reading}
 use Rattle.node_rows.specs.declared.node_list.NodeAt.{NodeAt}
+use Rattle.node_rows.specs.NodeList.{nodes_of}
 use Rattle.node_store.specs.Fresh.{numbered_of}
-use Rattle.node_store.specs.NodeList.{forest_of}
 use Rattle.visitor_machine.specs.Unchanged.{OneFresh}
 
 abbrev entry : ℕ → NodeText → Span → NodeAt
@@ -32,4 +32,4 @@ pub one_fresh : OneFresh
 one_fresh f g h k e =
     let t = one_reading f.text h.tree k.tree h.reads (subst (λ s. Reads s k.tree) (sym e) k.reads) in
     let es = entries_same h.entries k.entries (h.are_numbered ∙ (ap numbered t ∙ sym k.are_numbered)) in
-    h.is_forest ∙ (ap (λ s. forest_of s h.entries) e ∙ (ap (λ x. forest_of g.text x) es ∙ sym k.is_forest))
+    h.are_nodes ∙ (ap nodes_of es ∙ sym k.are_nodes)

@@ -8,9 +8,9 @@ use Rattle.css_tree.specs.declared.node.NodeText.{NodeText}
 use Rattle.css_tree.specs.declared.node.NodeText.TheVariants as N
 use Rattle.css_tree.specs.Tree.{Trees, Tree}
 use Rattle.css_tree.specs.Print.{container_of, opening, closing, print_children, print, body}
-use Rattle.css_tree.specs.Pieces.{Piece, Shape, join, end_of, last_end}
+use Rattle.css_tree.specs.Pieces.{Lexeme, Shape, join, end_of, last_end}
 use Rattle.css_tree.specs.Nodes.{Nodes, none, comment, leaf, block, line, AreNodes}
-use Rattle.css_tree.specs.Fields.{IsLeaf, IsBlock, first_at, span_of}
+use Rattle.css_tree.specs.Fields.{IsLeaf, IsBlock, begins_at, span_of}
 use Rattle.css_tree.specs.Reads.{Reads, AreTrees, block_of_nodes}
 use Rattle.css_tree.proofs.Formed.{AllFormed, formed-front, formed-back, formed-of, StandAt}
 use Rattle.css_tree.proofs.Printed.{join-append, join-cons, Shows, comment-shows, leaf-shows, block-shows, comment-kind, leaf-kind, block-kind, printed, none-printed, comment-line, leaf-line, block-line}
@@ -28,16 +28,16 @@ span-same a b c d e f = ap (λ x. span_of x b) e ∙ ap (λ y. span_of c y) f
 
 -- The spans of the kinds of nodes: from behind `before`, for the bytes of their pieces.
 
-first-stands : (at : ℕ) (b run rest : List Piece) (w : Piece) (r : List Piece) → run ≡ w ∷ r → StandAt at (b ++ (run ++ rest)) → w.at ≡ at + byte_len (join b)
+first-stands : (at : ℕ) (b run rest : List Lexeme) (w : Lexeme) (r : List Lexeme) → run ≡ w ∷ r → StandAt at (b ++ (run ++ rest)) → w.at ≡ at + byte_len (join b)
 first-stands at b run rest w r e h = (subst (λ z. StandAt (at + byte_len (join b)) (z ++ rest)) e (stand-behind at b (run ++ rest) h)).0
 
-run-ends : (at : ℕ) (b run rest : List Piece) (w : Piece) (r : List Piece) → run ≡ w ∷ r → StandAt at (b ++ (run ++ rest)) → last_end (end_of w) r ≡ at + byte_len (join b) + byte_len (join run)
+run-ends : (at : ℕ) (b run rest : List Lexeme) (w : Lexeme) (r : List Lexeme) → run ≡ w ∷ r → StandAt at (b ++ (run ++ rest)) → last_end (end_of w) r ≡ at + byte_len (join b) + byte_len (join run)
 run-ends at b run rest w r e h =
     let y = at + byte_len (join b) in
     let s : StandAt y (w ∷ r) = subst (λ z. StandAt y z) e (stand-front y run rest (stand-behind at b (run ++ rest) h)) in
     omega (arith, ends-at (end_of w) r s.1, s.0, ap (λ z. byte_len (join z)) e, ap byte_len (join-cons w r), bytes-append w.text (join r))
 
-leaf-span : (at : ℕ) (b run rest : List Piece) (t : NodeText) (sp : Option Span) → IsLeaf b run t sp → StandAt at (b ++ (run ++ rest)) → sp ≡ span_of (at + byte_len (text_before t)) (at + byte_len (join b) + byte_len (join run))
+leaf-span : (at : ℕ) (b run rest : List Lexeme) (t : NodeText) (sp : Option Span) → IsLeaf b run t sp → StandAt at (b ++ (run ++ rest)) → sp ≡ span_of (at + byte_len (text_before t)) (at + byte_len (join b) + byte_len (join run))
 leaf-span at b run rest t sp (inl h) s =
     let r = h.after_name ++ (h.params ++ h.between) in
     let f : text_before t ≡ join b = rw h.is_node refl in
@@ -49,16 +49,16 @@ leaf-span at b run rest t sp (inr h) s =
     let k = hack-bytes h.hack h.word.text h.prop h.word_text h.hack_class in
     h.is_span ∙ span-same (h.word.at + length h.hack) (last_end (end_of h.word) r) _ _ (omega (arith, w, k, ap byte_len f, bytes-append (join b) h.hack)) (run-ends at b run rest h.word r h.all s)
 
-block-before : (b run : List Piece) (o : Piece) (blk : Block) (end : ℕ) (t : NodeText) (sp : Option Span) → IsBlock b run o blk end t sp → (text_before t ≡ join b) × (sp ≡ span_of (first_at run o) end)
-block-before b run o blk end t sp (inl h) = (rw h.is_node refl, h.is_span ∙ ap (λ z. span_of (first_at z o) end) (sym h.all))
+block-before : (b run : List Lexeme) (o : Lexeme) (blk : Block) (end : ℕ) (t : NodeText) (sp : Option Span) → IsBlock b run o blk end t sp → (text_before t ≡ join b) × (sp ≡ span_of (begins_at run o) end)
+block-before b run o blk end t sp (inl h) = (rw h.is_node refl, h.is_span ∙ ap (λ z. span_of (begins_at z o) end) (sym h.all))
 block-before b run o blk end t sp (inr h) = (rw h.is_node refl, h.is_span)
 
-opening-stands : (at : ℕ) (run rest : List Piece) (o : Piece) → StandAt at (run ++ o ∷ rest) → first_at run o ≡ at
+opening-stands : (at : ℕ) (run rest : List Lexeme) (o : Lexeme) → StandAt at (run ++ o ∷ rest) → begins_at run o ≡ at
 opening-stands at [] rest o h = h.0
 opening-stands at (q ∷ r) rest o h = h.0
 
 -- A node whose body up to its children is shown, and what is printed behind that, at every depth.
-stands-by : (s front behind : List ℕ) (t : NodeText) (sp : Option Span) (k : Trees) (b : List Piece) (head inner : List ℕ) (h : Shows t b head) (end : ℕ)
+stands-by : (s front behind : List ℕ) (t : NodeText) (sp : Option Span) (k : Trees) (b : List Lexeme) (head inner : List ℕ) (h : Shows t b head) (end : ℕ)
     → s ≡ front ++ (join b ++ (head ++ (inner ++ behind)))
     → ((depth : ℕ) → print_children (container_of depth t k) true k ++ closing depth t k ≡ inner)
     → sp ≡ span_of (byte_len front + byte_len (text_before t)) end → end ≡ byte_len front + byte_len (join b) + byte_len head + byte_len inner
@@ -84,13 +84,13 @@ stands-by s front behind t sp k b head inner h end e f g l =
 none-inside : (t : NodeText) → ((d : ℕ) (k : Trees) → closing d t k ≡ []) → (depth : ℕ) → print_children (container_of depth t Trees.none) true Trees.none ++ closing depth t Trees.none ≡ []
 none-inside t h depth = ap (λ z. z ++ closing depth t Trees.none) (none-printed (container_of depth t Trees.none) true) ∙ h depth Trees.none
 
-one-bytes : (p : Piece) (ps : List Piece) → byte_len (join (p ∷ ps)) ≡ byte_len p.text + byte_len (join ps)
+one-bytes : (p : Lexeme) (ps : List Lexeme) → byte_len (join (p ∷ ps)) ≡ byte_len p.text + byte_len (join ps)
 one-bytes p ps = ap byte_len (join-cons p ps) ∙ bytes-append p.text (join ps)
 
-two-bytes : (xs ys : List Piece) → byte_len (join (xs ++ ys)) ≡ byte_len (join xs) + byte_len (join ys)
+two-bytes : (xs ys : List Lexeme) → byte_len (join (xs ++ ys)) ≡ byte_len (join xs) + byte_len (join ys)
 two-bytes xs ys = ap byte_len (join-append xs ys) ∙ bytes-append (join xs) (join ys)
 
-pub stood : (f : Nodes) (ts : Trees) (a : List Piece) (n at : ℕ) (s front behind : List ℕ)
+pub stood : (f : Nodes) (ts : Trees) (a : List Lexeme) (n at : ℕ) (s front behind : List ℕ)
     → AreNodes n f a → AllFormed (line f) → AreTrees f ts → at ≡ byte_len front → StandAt at (line f) → s ≡ front ++ (join (line f) ++ behind) → AllStand s ts
 unfolding line
 stood none Trees.none a n at s front behind h m t i st e = tt
@@ -153,7 +153,7 @@ stood (block b q o v a' d f) (Trees.node x sp k r) a n at s front behind h m t i
     let all : s ≡ front ++ (join b ++ (head ++ ((join (line v) ++ end) ++ (join (line f) ++ behind)))) = e ∙ (ap (λ z. front ++ (z ++ behind)) (sym (block-line b q o (line v) a' d (line f) to td)) ∙ simp append_assoc) in (
       stands-by s front (join (line f) ++ behind) x sp k b head (join (line v) ++ end) (block-shows b q o _ _ x sp t.0) (end_of d) all
           (λ depth. ap (λ z. z ++ closing depth x k) (printed v k a' (suc n) (container_of depth x k) true false h.4 mk t.1 (kind.flag depth k)) ∙ ap (λ z. join (line v) ++ z) (kind.closes depth k))
-          (w.1 ∙ span-same (first_at q o) (end_of d) _ _ (omega (arith, begins, i, ap byte_len w.0)) refl)
+          (w.1 ∙ span-same (begins_at q o) (end_of d) _ _ (omega (arith, begins, i, ap byte_len w.0)) refl)
           (omega (arith, i, so.0, sd.0, bo, bd, bh, be, bi)),
       stood v k a' (suc n) (end_of o) s (front ++ (join b ++ head)) (end ++ (join (line f) ++ behind)) h.4 mk t.1
           (omega (arith, i, so.0, bo, bh, bytes-append front (join b ++ head), bytes-append (join b) head))

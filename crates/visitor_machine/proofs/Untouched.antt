@@ -95,7 +95,7 @@ in_tree ns s f (under {n} {p} e r) b = below e (in_tree ns s f r (s.below n p e)
 
 fresh_in_tree : (f : Forest) → IsForest f → IsFresh f → (n : ℕ) → n < length f.nodes → Above f.nodes 0 n
 fresh_in_tree f i h n b =
-    let e : f.nodes ≡ nodes_of h.entries = ap (λ g. g.nodes) h.is_forest in
+    let e = h.are_nodes in
     let given : (n : ℕ) → n < length f.nodes → parent_of f.nodes n ≡ None → n ≡ 0 = λ n b j. parent_given h.entries n (omega (arith, ap (λ x. length x) e, nodes_of-length h.entries, b)) (ap (λ x. parent_of x n) (sym e) ∙ j) in
     in_tree f.nodes i.sound given (rooted f.nodes i.sound n b) b
 

@@ -1,4 +1,4 @@
--- What a run without an edit leaves, and that a text has one fresh forest.
+-- What a run without an edit leaves, and that a text is read as one list of nodes.
 use Rattle.std.specs.Prelude.{◌≡◌, ℕ, List, Some}
 use Rattle.css_tree.specs.Print.{print}
 use Rattle.node_rows.specs.Nodes.{Node}
@@ -19,6 +19,6 @@ QuietTree = (hooks : List PickedHook) (most : ℕ) (nodes : List Node) (log : Li
 abbrev pub QuietSheet : Type 0
 QuietSheet = (hooks : List PickedHook) (most : ℕ) (forest : Forest) (log : List Item) (end : State) → IsForest forest → IsFresh forest → IsQuiet log → follow hooks most (start hooks forest.nodes) log ≡ Some end → print (tree_at end.nodes 0) ≡ forest.text
 
--- a text has at most one fresh forest
+-- fresh forests of one text have the same nodes
 abbrev pub OneFresh : Type 0
-OneFresh = (f g : Forest) → IsFresh f → IsFresh g → f.text ≡ g.text → f ≡ g
+OneFresh = (f g : Forest) → IsFresh f → IsFresh g → f.text ≡ g.text → f.nodes ≡ g.nodes

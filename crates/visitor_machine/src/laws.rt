@@ -29,7 +29,7 @@ pub fn untouched()
     ensures { Untouched }
 {}
 
-/// A text is read as one forest alone.
+/// A text is read as one list of nodes alone.
 pub fn one_fresh()
     ensures { OneFresh }
 {}
