@@ -7,9 +7,9 @@ use Rattle.serde_json.specs.Find.{as_array, as_object, get}
 use Rattle.lint_config.specs.declared.rule.Rule.{Rule}
 use Rattle.lint_config.specs.declared.rule.Primary.{Primary}
 use Rattle.lint_config.specs.declared.rule.Primary.TheVariants.{Flag, AlwaysWord, ShortOrLong, SingleOrDouble, Thousand, Specificity}
-use Rattle.lint_config.specs.declared.settings.Choice.{Choice}
-use Rattle.lint_config.specs.declared.settings.Choice.TheVariants.{Count, Short, Long, Single, Double, Always}
-use Rattle.lint_config.specs.declared.settings.Severity.{Severity}
+use Rattle.lint_config.specs.declared.setting.Choice.{Choice}
+use Rattle.lint_config.specs.declared.setting.Choice.TheVariants.{Count, Short, Long, Single, Double, Always}
+use Rattle.lint_config.specs.declared.setting.Severity.{Severity}
 use Rattle.lint_config.specs.declared.config.Mode.TheVariants.{Off, Unknown}
 use Rattle.lint_config.specs.declared.config.Mode.TheVariants as mode
 use Rattle.lint_config.specs.declared.config.ConfigKind.{ConfigKind}

@@ -7,9 +7,9 @@ use Rattle.std.proofs.lemmas.Map.Text.{is_eq-slice_cmp}
 use Rattle.std.proofs.lemmas.Slice.Eq.{bytes_eq-Decides}
 use Rattle.lint_config.specs.declared.rule.Rule.{Rule}
 use Rattle.lint_config.specs.declared.rule.Rule.TheVariants.{BlockNoEmpty}
-use Rattle.lint_config.specs.declared.settings.Setting.{Setting}
-use Rattle.lint_config.specs.declared.settings.Severity.{Severity}
-use Rattle.lint_config.specs.declared.settings.Severity.TheVariants.{Error}
+use Rattle.lint_config.specs.declared.setting.Setting.{Setting}
+use Rattle.lint_config.specs.declared.setting.Severity.{Severity}
+use Rattle.lint_config.specs.declared.setting.Severity.TheVariants.{Error}
 use Rattle.lint_config.specs.declared.config.Mode.{Mode}
 use Rattle.lint_config.specs.declared.config.Mode.TheVariants.{Off, Unknown, On}
 use Rattle.lint_config.specs.Rules.{entry_of, all_rules, rule_named, name_of, primary_of}

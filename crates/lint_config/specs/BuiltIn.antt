@@ -1,7 +1,7 @@
 -- The configuration that serves where none is given.
 use Rattle.std.specs.Prelude.{ℕ, List, [], ◌∷◌, codes, None}
 use Rattle.lint_config.specs.declared.rule.Rule.TheVariants.{BlockNoEmpty}
-use Rattle.lint_config.specs.declared.settings.Choice.TheVariants.{On}
+use Rattle.lint_config.specs.declared.setting.Choice.TheVariants.{On}
 use Rattle.lint_config.specs.declared.config.Mode.TheVariants as mode
 use Rattle.lint_config.specs.Rules.{name_of}
 use Rattle.lint_config.specs.ConfigOf.{ConfigData, no_config}

@@ -3,9 +3,9 @@ use Rattle.std.specs.Prelude.{Bool, true, false, List, [], ◌∷◌, nat_le, �
 use Rattle.std.specs.List.{list_any}
 use Rattle.lint_config.specs.declared.rule.Primary.{Primary}
 use Rattle.lint_config.specs.declared.rule.Primary.TheVariants.{Flag, AlwaysWord, ShortOrLong, SingleOrDouble, Thousand, Specificity}
-use Rattle.lint_config.specs.declared.settings.Choice.{Choice}
-use Rattle.lint_config.specs.declared.settings.Choice.TheVariants.{On, Count, Short, Long, Single, Double, Always, Limit}
-use Rattle.lint_config.specs.declared.settings.Setting.{Setting}
+use Rattle.lint_config.specs.declared.setting.Choice.{Choice}
+use Rattle.lint_config.specs.declared.setting.Choice.TheVariants.{On, Count, Short, Long, Single, Double, Always, Limit}
+use Rattle.lint_config.specs.declared.setting.Setting.{Setting}
 use Rattle.lint_config.specs.Rules.{name_of, primary_of}
 
 -- whether what a rule takes allows the choice

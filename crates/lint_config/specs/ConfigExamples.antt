@@ -3,8 +3,8 @@ use Rattle.std.specs.Prelude.{◌≡◌, ℕ, List, [], ◌∷◌, codes, Some, 
 use Rattle.std.specs.Str.{chars}
 use Rattle.serde_json.specs.Data.{Data, unsigned, null, boolean, number, string, array, object, no_items, item, Members, no_members, member}
 use Rattle.lint_config.specs.declared.rule.Rule.TheVariants.{BlockNoEmpty, SelectorMaxId, SelectorMaxSpecificity}
-use Rattle.lint_config.specs.declared.settings.Choice.TheVariants.{On, Count, Limit}
-use Rattle.lint_config.specs.declared.settings.Severity.TheVariants.{Error, Warning}
+use Rattle.lint_config.specs.declared.setting.Choice.TheVariants.{On, Count, Limit}
+use Rattle.lint_config.specs.declared.setting.Severity.TheVariants.{Error, Warning}
 use Rattle.lint_config.specs.declared.config.ConfigKind.TheVariants.{WrongShape, BadOption, Extends}
 use Rattle.lint_config.specs.declared.config.Mode.TheVariants.{Off, Unknown}
 use Rattle.lint_config.specs.declared.config.Mode.TheVariants as mode

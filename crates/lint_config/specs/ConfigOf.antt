@@ -4,7 +4,7 @@ use Rattle.std.specs.Str.{chars}
 use Rattle.std.specs.List.{list_any}
 use Rattle.serde_json.specs.Data.{Data, null, boolean, number, string, array, object, Items, no_items, item, Members, no_members, member}
 use Rattle.serde_json.specs.Find.{get, as_bool, as_str, as_array, as_object}
-use Rattle.lint_config.specs.declared.settings.Severity.{Severity}
+use Rattle.lint_config.specs.declared.setting.Severity.{Severity}
 use Rattle.lint_config.specs.declared.config.Mode.{Mode}
 use Rattle.lint_config.specs.declared.config.ConfigKind.{ConfigKind}
 use Rattle.lint_config.specs.declared.config.ConfigKind.TheVariants.{WrongShape, BadOption, Extends}

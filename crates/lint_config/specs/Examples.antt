@@ -4,7 +4,7 @@ use Rattle.lint_config.specs.Rules.{all_rules, name_of, primary_of, rule_named}
 use Rattle.lint_config.specs.Choices.{allows}
 use Rattle.lint_config.specs.declared.rule.Rule.{Rule}
 use Rattle.lint_config.specs.declared.rule.Rule.TheVariants.{BlockNoEmpty, SelectorMaxId, ColorHexLength}
-use Rattle.lint_config.specs.declared.settings.Choice.TheVariants.{On, Count, Short, Double}
+use Rattle.lint_config.specs.declared.setting.Choice.TheVariants.{On, Count, Short, Double}
 
 abbrev pub Names : Type 0
 Names = (rule_named (codes "block-no-empty") ≡ Some BlockNoEmpty)

@@ -5,9 +5,9 @@ use Rattle.std.specs.Str.{chars}
 use Rattle.std.specs.Ordering.{nat_cmp, match_ordering}
 use Rattle.std.specs.Cmp.Lexicographic.{slice_cmp}
 use Rattle.lint_config.specs.declared.rule.Rule.{Rule}
-use Rattle.lint_config.specs.declared.settings.Setting.{Setting}
-use Rattle.lint_config.specs.declared.settings.Severity.{Severity}
-use Rattle.lint_config.specs.declared.settings.Severity.TheVariants.{Error}
+use Rattle.lint_config.specs.declared.setting.Setting.{Setting}
+use Rattle.lint_config.specs.declared.setting.Severity.{Severity}
+use Rattle.lint_config.specs.declared.setting.Severity.TheVariants.{Error}
 use Rattle.lint_config.specs.declared.config.Mode.{Mode}
 use Rattle.lint_config.specs.declared.config.Mode.TheVariants.{Off, Unknown, On}
 use Rattle.lint_config.specs.Rules.{all_rules, name_of}

@@ -9,10 +9,10 @@ use Rattle.serde_json.specs.Find.{as_null, as_str, as_array, as_object}
 use Rattle.lint_config.specs.declared.rule.Rule.{Rule}
 use Rattle.lint_config.specs.declared.rule.Primary.{Primary}
 use Rattle.lint_config.specs.declared.rule.Primary.TheVariants.{Flag, AlwaysWord, ShortOrLong, SingleOrDouble, Thousand, Specificity}
-use Rattle.lint_config.specs.declared.settings.Choice.{Choice}
-use Rattle.lint_config.specs.declared.settings.Choice.TheVariants.{On, Count, Short, Long, Single, Double, Always, Limit}
-use Rattle.lint_config.specs.declared.settings.Severity.{Severity}
-use Rattle.lint_config.specs.declared.settings.Severity.TheVariants.{Error, Warning}
+use Rattle.lint_config.specs.declared.setting.Choice.{Choice}
+use Rattle.lint_config.specs.declared.setting.Choice.TheVariants.{On, Count, Short, Long, Single, Double, Always, Limit}
+use Rattle.lint_config.specs.declared.setting.Severity.{Severity}
+use Rattle.lint_config.specs.declared.setting.Severity.TheVariants.{Error, Warning}
 use Rattle.lint_config.specs.declared.config.Mode.{Mode}
 use Rattle.lint_config.specs.declared.config.Mode.TheVariants.{Off, Unknown}
 use Rattle.lint_config.specs.declared.config.Mode.TheVariants as mode

@@ -1,6 +1,6 @@
 // The configuration of the linter.
 use crate::rule::Rule;
-use crate::settings::{Choice, Severity};
+use crate::setting::{Choice, Severity};
 use css_text::txt::Txt;
 use std::alloc::{AllocError, Global};
 use std::marker::Model;

@@ -2,7 +2,7 @@
 use crate::config::{Config, ConfigFault};
 use crate::reading::read_config;
 use crate::resolve::settings;
-use crate::settings::Settings;
+use crate::setting::Settings;
 use css_text::stop::Stop;
 use std::alloc::{AllocError, Global};
 use std::process::Abort;
@@ -24,10 +24,20 @@ fn said(alloc: Global, bytes: &[u8]) -> Result<String, AllocError> {
     }
 }
 
+fn expect_said(
+    rt: &impl Abort,
+    alloc: Global,
+    bytes: &[u8],
+    wanted: &str,
+) -> Result<(), AllocError> {
+    let answer = said(alloc, bytes)?;
+    assert_eq!(rt; answer.as_str(), wanted);
+    Ok(())
+}
+
 fn compare(rt: &impl Abort, alloc: Global, cases: &[(&str, &str)]) -> Result<(), Fail> {
     for (text, wanted) in cases {
-        let answer = said(alloc, text.as_bytes())?;
-        assert_eq!(rt; answer.as_str(), *wanted, "{text}");
+        expect_said(rt, alloc, text.as_bytes(), wanted)?;
     }
     Ok(())
 }
@@ -36,7 +46,7 @@ fn compare(rt: &impl Abort, alloc: Global, cases: &[(&str, &str)]) -> Result<(),
 fn no_json(rt: HostRuntime) -> Result<(), Fail> {
     let cases: [&[u8]; 6] = [b"", b"{", b"{} x", b"{\"a\":01}", b"\xff", b"{\"\xc3\":1}"];
     for bytes in cases {
-        assert_eq!(rt; said(rt.alloc(), bytes)?.as_str(), "not JSON");
+        expect_said(&rt, rt.alloc(), bytes, "not JSON")?;
     }
     Ok(())
 }
@@ -54,6 +64,13 @@ fn keys_at_the_top(rt: HostRuntime) -> Result<(), Fail> {
         ),
         (r#"{"plugins":[]}"#, "WrongShape at plugins"),
         (r#"{"z":1,"Z":1,"rules":1}"#, "WrongShape at Z"),
+    ];
+    compare(&rt, rt.alloc(), &cases)
+}
+
+#[test]
+fn values_at_the_top(rt: HostRuntime) -> Result<(), Fail> {
+    let cases = [
         (
             r#"{"defaultSeverity":"fatal"}"#,
             "WrongShape at defaultSeverity",
@@ -73,35 +90,57 @@ fn keys_at_the_top(rt: HostRuntime) -> Result<(), Fail> {
     compare(&rt, rt.alloc(), &cases)
 }
 
+fn expect_bad_option(
+    rt: &impl Abort,
+    alloc: Global,
+    rule: &str,
+    option: &str,
+) -> Result<(), AllocError> {
+    let text = format!(in alloc; "{{\"rules\":{{\"{rule}\":{option}}}}}")?;
+    let wanted = format!(in alloc; "BadOption at rules.{rule}")?;
+    expect_said(rt, alloc, text.as_bytes(), wanted.as_str())
+}
+
 #[test]
-fn options_of_rules(rt: HostRuntime) -> Result<(), Fail> {
-    let refused = [
+fn options_of_limits(rt: HostRuntime) -> Result<(), Fail> {
+    for (rule, option) in [
         ("max-nesting-depth", "-1"),
         ("max-nesting-depth", "1001"),
         ("selector-max-id", "1.0"),
         ("selector-max-id", "\"1\""),
-        ("selector-max-specificity", "\"0,65536,0\""),
-        ("selector-max-specificity", "\"0,+1,0\""),
-        ("selector-max-specificity", "\"0,1\""),
-        ("selector-max-specificity", "\"0,1,2,3\""),
-        ("selector-max-specificity", "\"0,,2\""),
-        ("selector-max-specificity", "\"0,00,0\""),
-        ("selector-max-specificity", "\"0,1,007\""),
+    ] {
+        expect_bad_option(&rt, rt.alloc(), rule, option)?;
+    }
+    Ok(())
+}
+
+#[test]
+fn options_of_specificities(rt: HostRuntime) -> Result<(), Fail> {
+    for option in [
+        "\"0,65536,0\"",
+        "\"0,+1,0\"",
+        "\"0,1\"",
+        "\"0,1,2,3\"",
+        "\"0,,2\"",
+        "\"0,00,0\"",
+        "\"0,1,007\"",
+    ] {
+        expect_bad_option(&rt, rt.alloc(), "selector-max-specificity", option)?;
+    }
+    Ok(())
+}
+
+#[test]
+fn options_of_words(rt: HostRuntime) -> Result<(), Fail> {
+    for (rule, option) in [
         ("color-hex-length", "\"single\""),
         ("selector-pseudo-element-colon-notation", "\"\""),
         ("comment-whitespace-inside", "\"never\""),
         ("block-no-empty", "false"),
         ("block-no-empty", "{}"),
         ("block-no-empty", "1,\"a\":1,\"unit-no-unknown\":1"),
-    ];
-    for (rule, option) in refused {
-        let text = format!(in rt.alloc(); "{{\"rules\":{{\"{rule}\":{option}}}}}")?;
-        let wanted = format!(in rt.alloc(); "BadOption at rules.{rule}")?;
-        assert_eq!(rt;
-            said(rt.alloc(), text.as_bytes())?.as_str(),
-            wanted.as_str(),
-            "{option}"
-        );
+    ] {
+        expect_bad_option(&rt, rt.alloc(), rule, option)?;
     }
     Ok(())
 }
@@ -150,11 +189,19 @@ fn secondary_options(rt: HostRuntime) -> Result<(), Fail> {
     compare(&rt, rt.alloc(), &cases)
 }
 
+fn expect_override(
+    rt: &impl Abort,
+    alloc: Global,
+    overrides: &str,
+    wanted: &str,
+) -> Result<(), AllocError> {
+    let text = format!(in alloc; "{{\"overrides\":[{overrides}]}}")?;
+    expect_said(rt, alloc, text.as_bytes(), wanted)
+}
+
 fn compare_overrides(rt: &impl Abort, alloc: Global, cases: &[(&str, &str)]) -> Result<(), Fail> {
     for (overrides, wanted) in cases {
-        let text = format!(in alloc; "{{\"overrides\":[{overrides}]}}")?;
-        let answer = said(alloc, text.as_bytes())?;
-        assert_eq!(rt; answer.as_str(), *wanted, "{overrides}");
+        expect_override(rt, alloc, overrides, wanted)?;
     }
     Ok(())
 }
@@ -216,23 +263,35 @@ fn listed(alloc: Global, settings: &Settings) -> Result<String, Fail> {
     Ok(lines)
 }
 
-fn listed_for(alloc: Global, text: &str, path: &str) -> Result<String, Fail> {
-    let config = read_config(alloc, text.as_bytes())
-        .ok()
-        .ok_or("a configuration")?;
-    listed(alloc, &settings(alloc, &config, path)?)
+fn configured(alloc: Global, text: &str) -> Result<Config, Fail> {
+    Ok(
+        read_config(alloc, text.as_bytes())
+            .ok()
+            .ok_or("a configuration")?,
+    )
+}
+
+fn expect_listed(
+    rt: &impl Abort,
+    alloc: Global,
+    settings: &Settings,
+    wanted: &str,
+) -> Result<(), Fail> {
+    assert_eq!(rt; listed(alloc, settings)?.as_str(), wanted);
+    Ok(())
+}
+
+fn expect_flags(rt: &impl Abort, settings: &Settings, wanted: bool) {
+    assert_eq!(rt; settings.needless, wanted);
+    assert_eq!(rt; settings.ignore, wanted);
 }
 
 #[test]
 fn built_in(rt: HostRuntime) -> Result<(), Fail> {
     let config = Config::built_in(rt.alloc())?;
     let found = settings(rt.alloc(), &config, "a.css")?;
-    assert_eq!(rt;
-        listed(rt.alloc(), &found)?.as_str(),
-        "block-no-empty On Error\n"
-    );
-    assert!(rt; !found.needless);
-    assert!(rt; !found.ignore);
+    expect_listed(&rt, rt.alloc(), &found, "block-no-empty On Error\n")?;
+    expect_flags(&rt, &found, false);
     Ok(())
 }
 
@@ -240,13 +299,10 @@ fn built_in(rt: HostRuntime) -> Result<(), Fail> {
 fn unknown_names(rt: HostRuntime) -> Result<(), Fail> {
     let text =
         r#"{"ignoreDisables":true,"reportNeedlessDisables":true,"rules":{"b":[1],"a":0,"c":null,"d":[null,1],"\u00e9":[]}}"#;
-    let config = read_config(rt.alloc(), text.as_bytes())
-        .ok()
-        .ok_or("a configuration")?;
+    let config = configured(rt.alloc(), text)?;
     let found = settings(rt.alloc(), &config, "")?;
-    assert_eq!(rt; listed(rt.alloc(), &found)?.as_str(), "a\nb\n\u{e9}\n");
-    assert!(rt; found.needless);
-    assert!(rt; found.ignore);
+    expect_listed(&rt, rt.alloc(), &found, "a\nb\n\u{e9}\n")?;
+    expect_flags(&rt, &found, true);
     Ok(())
 }
 
@@ -280,8 +336,14 @@ const PROJECT: &str = r#"{
   ]
 }"#;
 
+fn expect_project(rt: &impl Abort, alloc: Global, path: &str, wanted: &str) -> Result<(), Fail> {
+    let config = configured(alloc, PROJECT)?;
+    let found = settings(alloc, &config, path)?;
+    expect_listed(rt, alloc, &found, wanted)
+}
+
 #[test]
-fn project(rt: HostRuntime) -> Result<(), Fail> {
+fn a_project(rt: HostRuntime) -> Result<(), Fail> {
     let base = "block-no-empty On Warning\n\
          comment-whitespace-inside Always Error\n\
          max-nesting-depth Count(3) Warning\n\
@@ -290,11 +352,22 @@ fn project(rt: HostRuntime) -> Result<(), Fail> {
          selector-max-specificity Limit(0, 4, 2) Warning\n\
          alpha-value-notation\n\
          selector-class-pattern\n";
+    expect_project(&rt, rt.alloc(), "a.css", base)
+}
+
+#[test]
+fn an_override(rt: HostRuntime) -> Result<(), Fail> {
     let vendor = "comment-whitespace-inside Always Error\n\
          max-nesting-depth Count(3) Warning\n\
          selector-max-id Count(0) Warning\n\
          selector-max-specificity Limit(0, 4, 2) Warning\n\
          alpha-value-notation\n";
+    expect_project(&rt, rt.alloc(), "vendor/b/a.css", vendor)?;
+    expect_project(&rt, rt.alloc(), "a.min.css", vendor)
+}
+
+#[test]
+fn two_overrides(rt: HostRuntime) -> Result<(), Fail> {
     let both = "comment-whitespace-inside Always Error\n\
          max-nesting-depth Count(3) Warning\n\
          color-hex-length Long Error\n\
@@ -302,18 +375,5 @@ fn project(rt: HostRuntime) -> Result<(), Fail> {
          selector-max-id Count(1) Warning\n\
          selector-max-specificity Limit(0, 4, 2) Warning\n\
          alpha-value-notation\n";
-    let cases = [
-        ("a.css", base),
-        ("vendor/b/a.css", vendor),
-        ("a.min.css", vendor),
-        ("./src/b/a.min.css", both),
-    ];
-    for (path, wanted) in cases {
-        assert_eq!(rt;
-            listed_for(rt.alloc(), PROJECT, path)?.as_str(),
-            wanted,
-            "{path}"
-        );
-    }
-    Ok(())
+    expect_project(&rt, rt.alloc(), "./src/b/a.min.css", both)
 }

@@ -1,6 +1,6 @@
 // What rules find.
 use crate::rule::Rule;
-use crate::settings::Severity;
+use crate::setting::Severity;
 use css_text::lexer::Span;
 use css_text::text::Place;
 use css_text::txt::Txt;

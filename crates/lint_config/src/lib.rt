@@ -16,7 +16,7 @@ mod patterns;
 pub mod reading;
 pub mod resolve;
 pub mod rule;
-pub mod settings;
+pub mod setting;
 pub mod table;
 #[cfg(test)]
 mod tests;

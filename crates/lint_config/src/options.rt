@@ -7,7 +7,7 @@ ghost use Rattle.lint_config.specs.RuleValues.{choice_of, word_choice, number_ch
 
 use crate::config::Mode;
 use crate::rule::{Primary, Rule};
-use crate::settings::{Choice, Severity};
+use crate::setting::{Choice, Severity};
 use serde_json::{Number, Value};
 
 fn flag(primary: Primary, on: bool) -> Option<Choice>

@@ -2,7 +2,7 @@
 ghost use Rattle.std.specs.Prelude.{◌≡◌, true, false, Option, unwrap_or, IfOk, OnOk};
 ghost use Rattle.std.specs.Str.{chars};
 ghost use Rattle.std.specs.List.{list_any};
-ghost use Rattle.lint_config.specs.declared.settings.Severity.TheVariants.{Error};
+ghost use Rattle.lint_config.specs.declared.setting.Severity.TheVariants.{Error};
 ghost use Rattle.lint_config.specs.Rules.{all_rules, name_of};
 ghost use Rattle.lint_config.specs.Choices.{are_settings};
 ghost use Rattle.lint_config.specs.Glob.{glob_of};
@@ -13,7 +13,7 @@ ghost use Rattle.lint_config.specs.Resolved.{set_names as names_set, with_overri
 use crate::config::{Config, Contents, Mode, Named, Override};
 use crate::paths::glob;
 use crate::rule::Rule;
-use crate::settings::{Setting, Settings, Severity};
+use crate::setting::{Setting, Settings, Severity};
 use crate::table::rules;
 use css_text::txt::Txt;
 use std::alloc::{AllocError, Global};

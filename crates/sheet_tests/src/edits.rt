@@ -72,22 +72,38 @@ fn print_behind_import(rt: &impl Abort, alloc: Global, work: &mut Work) -> Resul
 fn make_nodes(rt: &impl Abort, work: &mut Work) -> Result<(), AllocError> {
     expect_new(rt, new_at_rule(work, "m", "x", true), 3)?;
     expect_new(rt, new_comment(work, "k"), 4)?;
-    expect_new(rt, new_decl(work, "p", "q"), 5)?;
+    expect_new(rt, new_decl(work, "p", "q"), 5)
+}
+
+fn move_nodes(rt: &impl Abort, work: &mut Work) -> Result<(), AllocError> {
     expect_done(rt, prepend(work, id(0), id(3)))?;
     expect_done(rt, append(work, id(3), id(4)))?;
     expect_done(rt, replace_with(work, id(2), id(5)))
 }
 
-fn print_every_call(rt: &impl Abort, alloc: Global, work: &mut Work) -> Result<(), AllocError> {
-    make_nodes(rt, work)?;
+fn set_declaration(rt: &impl Abort, work: &mut Work) -> Result<(), AllocError> {
     expect_done(rt, set_prop(work, id(5), "r"))?;
     expect_done(rt, set_value(work, id(5), "s"))?;
-    expect_done(rt, set_important(work, id(5), true))?;
+    expect_done(rt, set_important(work, id(5), true))
+}
+
+fn set_at_rule(rt: &impl Abort, work: &mut Work) -> Result<(), AllocError> {
     expect_done(rt, set_name(work, id(3), "media"))?;
     expect_done(rt, set_params(work, id(3), "print"))?;
-    expect_done(rt, set_comment_text(work, id(4), "z"))?;
+    expect_done(rt, set_comment_text(work, id(4), "z"))
+}
+
+fn set_rule(rt: &impl Abort, work: &mut Work) -> Result<(), AllocError> {
     expect_done(rt, set_selector(work, id(1), "d"))?;
-    expect_done(rt, set_raw(work, id(1), Raw::Before, "\n"))?;
+    expect_done(rt, set_raw(work, id(1), Raw::Before, "\n"))
+}
+
+fn print_every_call(rt: &impl Abort, alloc: Global, work: &mut Work) -> Result<(), AllocError> {
+    make_nodes(rt, work)?;
+    move_nodes(rt, work)?;
+    set_declaration(rt, work)?;
+    set_at_rule(rt, work)?;
+    set_rule(rt, work)?;
     expect_printed(
         rt,
         alloc,
@@ -186,6 +202,27 @@ fn move_of(step: u32, other: u32) -> Move {
     }
 }
 
+// The entries after a step, where its move is made.
+fn make_step(
+    rt: &impl Abort,
+    alloc: Global,
+    work: &mut Work,
+    entries: &[Entry],
+    node: u32,
+    to: Move,
+) -> Result<Option<Vec<Entry>>, AllocError> {
+    let wanted = is_made(entries, node, to);
+    assert_eq!(rt; make_move(work, node, to)?, wanted);
+    if !wanted {
+        expect_same(rt, work, entries);
+        return Ok(None);
+    }
+    let after = moved(alloc, entries, node, to)?;
+    expect_same(rt, work, &after);
+    Ok(Some(after))
+}
+
+// How many of the moves are made.
 fn make_moves(rt: &impl Abort, alloc: Global, work: &mut Work) -> Result<u32, AllocError> {
     let mut entries = entries_of(alloc, work)?;
     let total = work.node_total();
@@ -196,13 +233,10 @@ fn make_moves(rt: &impl Abort, alloc: Global, work: &mut Work) -> Result<u32, Al
         }
         let node = (step * step + 3) % total;
         let to = move_of(step, (7 * step + 1) % total);
-        let wanted = is_made(&entries, node, to);
-        assert_eq!(rt; make_move(work, node, to)?, wanted);
-        if wanted {
-            entries = moved(alloc, &entries, node, to)?;
+        if let Some(after) = make_step(rt, alloc, work, &entries, node, to)? {
+            entries = after;
             made = made.saturating_add(1);
         }
-        expect_same(rt, work, &entries);
     }
     Ok(made)
 }

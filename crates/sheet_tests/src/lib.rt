@@ -8,6 +8,8 @@ mod edit_model;
 #[cfg(test)]
 mod edits;
 #[cfg(test)]
+mod ends;
+#[cfg(test)]
 mod printed;
 #[cfg(test)]
 mod rows;

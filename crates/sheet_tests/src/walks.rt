@@ -1,6 +1,7 @@
 // Walks of sheets that are read from their text, with a shelf of one plugin.
 ghost use Rattle.std.specs.Prelude.{◌≤◌, length};
 
+use crate::deeds::Deed;
 use crate::script::{Script, Step};
 use crate::shelves::shelf_of;
 use crate::shown::{end_text, told_first, trace};
@@ -65,6 +66,25 @@ pub struct Outcome {
 pub struct Budgets {
     pub calls: u64,
     pub edits: u64,
+}
+
+/// Enough for each short walk.
+pub const AMPLE: Budgets = Budgets {
+    calls: 100,
+    edits: 100,
+};
+
+/// The deed at the call of that number.
+pub fn at(call: u32, deed: Deed) -> Step {
+    Step {
+        call: Some(call),
+        deed,
+    }
+}
+
+/// The deed at each call.
+pub fn always(deed: Deed) -> Step {
+    Step { call: None, deed }
 }
 
 /// The sheet of a text, where it has a reading.

@@ -1,4 +1,4 @@
-// The settings that a file is linted with.
+// A setting of a rule, and all that a file is linted with.
 use crate::rule::Rule;
 use css_text::txt::Txt;
 
