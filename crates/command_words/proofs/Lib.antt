@@ -1,8 +1,8 @@
 mod SameWord
-mod OptionNames
 mod Cuts
 mod Digits
 mod Givens
+mod Takens
 mod Picks
 mod FreshPlace
 mod CommandNames

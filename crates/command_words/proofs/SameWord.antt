@@ -1,6 +1,6 @@
 -- Two words are one where their characters are.
 use Rattle.std.proofs.Common.{◌≡◌, ℕ, List, [], ◌∷◌, Bool, true, false, refl, sym, ap, subst, ◌∙◌, eqb, eq-eqb, arith}
-use Rattle.std.specs.Prelude.{bytes_eq}
+use Rattle.std.specs.Prelude.{bytes_eq, codes}
 use Rattle.std.specs.Str.{chars, IsUtf8}
 use Rattle.std.proofs.lemmas.Bool.{false≢true, and_parts}
 use Rattle.std.proofs.lemmas.Bool.Decides.{nat_tests}
@@ -8,6 +8,7 @@ use Rattle.std.proofs.lemmas.Slice.Eq.{bytes_eq-Decides}
 use Rattle.std.proofs.lemmas.Str.{encodes-chars}
 use lib.Utf8.{encodes}
 use Rattle.css_tree.specs.Changes.{same_text}
+use Rattle.command_words.specs.Words.{is_end}
 
 one_text : (a b : List ℕ) → IsUtf8 a → IsUtf8 b → chars a ≡ chars b → a ≡ b
 one_text a b h k e = sym (encodes-chars a h) ∙ ap encodes e ∙ encodes-chars b k
@@ -39,3 +40,8 @@ pub same_words : (a b : List ℕ) → IsUtf8 a → IsUtf8 b → bytes_eq a b ≡
 same_words a b h k =
     let d = bytes_eq-Decides a b in
     same_by _ _ (λ i. equal_same (chars a) (chars b) (ap chars (d.0 i))) (λ i. d.1 (one_text a b h k (same_equal (chars a) (chars b) i)))
+
+-- the dashes as the code has them
+pub is_end_chars : (w : List ℕ) → same_text (chars w) (chars (codes "--")) ≡ is_end (chars w)
+unfolding chars
+is_end_chars w = refl

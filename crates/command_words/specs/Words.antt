@@ -1,5 +1,5 @@
 -- What a command's words ask for. A word is the list of its characters.
-use Rattle.std.specs.Prelude.{ℕ, suc, ◌==◌, ◌&&◌, not, nat_eq, nat_le, List, [], ◌∷◌, length, count_by, Bool, true, false, Option, Some, None, is_some, codes, string_bytes, if◌then◌else◌}
+use Rattle.std.specs.Prelude.{ℕ, suc, ◌==◌, ◌&&◌, not, nat_eq, nat_le, List, [], ◌∷◌, ◌++◌, length, count_by, Bool, true, false, Option, Some, None, is_some, codes, string_bytes, if◌then◌else◌}
 use Rattle.std.specs.declared.string.String.{String}
 use Rattle.std.specs.declared.alloc.Global.{Global}
 use Rattle.std.specs.Str.{chars}
@@ -14,68 +14,115 @@ use Rattle.command_words.specs.declared.options.OptionName.TheVariants.{Use, Bud
 abbrev pub word : String Global → List ℕ
 word w = chars (string_bytes w)
 
--- the option that a word names
-abbrev pub option_named : List ℕ → Option OptionName
-option_named w =
-    if same_text w (codes "--use") then Some Use
-    else if same_text w (codes "--budget") then Some Budget
-    else if same_text w (codes "--edit-budget") then Some EditBudget
-    else if same_text w (codes "--trace") then Some Trace
-    else None
+-- how an option is written
+abbrev pub written : OptionName → List ℕ
+written Use = codes "--use"
+written Budget = codes "--budget"
+written EditBudget = codes "--edit-budget"
+written Trace = codes "--trace"
 
 -- all others are flags
 abbrev pub takes_value : OptionName → Bool
 takes_value Trace = false
 takes_value _ = true
 
--- a value isn't empty and doesn't begin with `-`
+-- the options of `transform`, and how many plain words it takes
+abbrev pub transform_options : List OptionName
+transform_options = Use ∷ Budget ∷ EditBudget ∷ Trace ∷ []
+
+abbrev pub transform_plain : ℕ
+transform_plain = 0
+
+-- those of `lint`
+abbrev pub lint_options : List OptionName
+lint_options = []
+
+abbrev pub lint_plain : ℕ
+lint_plain = 0
+
+-- of these options the one that is written so
+abbrev pub option_in : List OptionName → List ℕ → Option OptionName
+option_in [] w = None
+option_in (name ∷ names) w = if same_text w (written name) then Some name else option_in names w
+
+-- a value, and a plain word, isn't empty and doesn't begin with `-`
 abbrev pub is_value : List ℕ → Bool
 is_value [] = false
 is_value (c ∷ cs) = not (c == 45)
+
+-- `--`, which ends the options
+abbrev pub is_end : List ℕ → Bool
+is_end w = same_text w (codes "--")
 
 -- An option as it is given. A flag has the empty value.
 pub record Given : Type 0 where
   pub name : OptionName
   pub value : List ℕ
 
+-- the options and the plain words that words give, each in their order
+pub record Taken : Type 0 where
+  pub options : List Given
+  pub plain : List (List ℕ)
+
+-- one of them
+pub data Item : Type 0 where
+  Optional : Given → Item
+  Plain : List ℕ → Item
+
+abbrev pub and_then : Item → Taken → Taken
+and_then (Optional g) t = record { options = g ∷ t.options; plain = t.plain }
+and_then (Plain w) t = record { options = t.options; plain = w ∷ t.plain }
+
+abbrev pub and_item : Option Item → Option Taken → Option Taken
+and_item None t = None
+and_item (Some i) t = option_map (and_then i) t
+
 -- what stands before a text's first `=`, and what stands after it
 abbrev pub cut : List ℕ → Option (List ℕ × List ℕ)
 cut [] = None
 cut (c ∷ cs) = if c == 61 then Some ([], cs) else option_map (λ x. (c ∷ x.0, x.1)) (cut cs)
 
-abbrev pub valued : Option OptionName → List ℕ → Option Given
+abbrev pub valued : Option OptionName → List ℕ → Option Item
 valued None value = None
-valued (Some name) value = if takes_value name && is_value value then Some (record { name = name; value = value }) else None
+valued (Some name) value = if takes_value name && is_value value then Some (Optional (record { name = name; value = value })) else None
 
-abbrev pub flagged : OptionName → Option Given
-flagged name = if takes_value name then None else Some (record { name = name; value = [] })
+abbrev pub flagged : OptionName → Option Item
+flagged name = if takes_value name then None else Some (Optional (record { name = name; value = [] }))
 
-abbrev pub joined : Option (List ℕ × List ℕ) → Option Given
-joined None = None
-joined (Some x) = valued (option_named x.0) x.1
+abbrev pub joined : List OptionName → Option (List ℕ × List ℕ) → Option Item
+joined known None = None
+joined known (Some x) = valued (option_in known x.0) x.1
 
-abbrev pub flag_or_joined : Option OptionName → List ℕ → Option Given
-flag_or_joined None w = joined (cut w)
-flag_or_joined (Some name) w = flagged name
+abbrev pub flag_or_joined : List OptionName → Option OptionName → List ℕ → Option Item
+flag_or_joined known None w = joined known (cut w)
+flag_or_joined known (Some name) w = flagged name
 
--- a word that is a whole option: a flag, or an option with its value after `=`
-abbrev pub alone : List ℕ → Option Given
-alone w = flag_or_joined (option_named w) w
+-- a word that is whole by itself: a plain one, a flag, or an option with its value after `=`
+abbrev pub alone : List OptionName → List ℕ → Option Item
+alone known w = if is_value w then Some (Plain w) else flag_or_joined known (option_in known w) w
 
 -- the word is an option whose value is the next word
 abbrev pub awaits_value : Option OptionName → Bool
 awaits_value None = false
 awaits_value (Some name) = takes_value name
 
-abbrev pub and_more : Option Given → Option (List Given) → Option (List Given)
-and_more None gs = None
-and_more (Some g) gs = option_map (λ hs. g ∷ hs) gs
+-- what words give behind others, where they give anything
+abbrev pub behind : Taken → Option Taken → Option Taken
+behind s more = option_map (λ t. record { options = s.options ++ t.options; plain = s.plain ++ t.plain }) more
 
--- the options that the words give, in order; none where a word is no option, or has no value that it should have
-abbrev pub given : List (List ℕ) → Option (List Given)
-given [] = Some []
-given (w ∷ []) = and_more (alone w) (Some [])
-given (w ∷ v ∷ ws) = if awaits_value (option_named w) then and_more (valued (option_named w) v) (given ws) else and_more (alone w) (given (v ∷ ws))
+-- words behind `--`: all of them are plain
+abbrev pub all_plain : List (List ℕ) → Option Taken
+all_plain ws = if list_all is_value ws then Some (record { options = []; plain = ws }) else None
+
+-- What the words give to a command with these options; none where a word is none of its options, has no value that it should have, or is
+-- no plain word.
+abbrev pub taken : List OptionName → List (List ℕ) → Option Taken
+taken known [] = all_plain []
+taken known (w ∷ []) = if is_end w then all_plain [] else and_item (alone known w) (all_plain [])
+taken known (w ∷ v ∷ ws) =
+    if is_end w then all_plain (v ∷ ws)
+    else if awaits_value (option_in known w) then and_item (valued (option_in known w) v) (taken known ws)
+    else and_item (alone known w) (taken known (v ∷ ws))
 
 abbrev pub option_number : OptionName → ℕ
 option_number Use = 0
@@ -92,11 +139,12 @@ value_of name [] = None
 value_of name (g ∷ gs) = if is_of name g then Some g.value else value_of name gs
 
 -- the option stands at most once
-abbrev pub is_once : OptionName → List Given → Bool
-is_once name gs = nat_le (count_by (is_of name) gs) 1
+abbrev pub is_once : List Given → OptionName → Bool
+is_once gs name = nat_le (count_by (is_of name) gs) 1
 
-abbrev pub are_once : List Given → Bool
-are_once gs = is_once Use gs && (is_once Budget gs && (is_once EditBudget gs && is_once Trace gs))
+-- each of a command's options stands at most once, and it has no more plain words than it takes
+abbrev pub fits : List OptionName → ℕ → Taken → Bool
+fits known most t = list_all (is_once t.options) known && nat_le (length t.plain) most
 
 -- the number of at most `most` that one to ten digits write
 abbrev pub number : ℕ → List ℕ → Option ℕ
@@ -147,10 +195,10 @@ pub record Options : Type 0 where
   pub edit_budget : Option ℕ
   pub trace : Bool
 
--- an option's value, where it is given, as it is taken
-abbrev pub taken : {A : Type 0} → (List ℕ → Option A) → Option (List ℕ) → Option (Option A)
-taken take None = Some None
-taken take (Some t) = option_map (λ x. Some x) (take t)
+-- an option's value, where it is given, as it is read
+abbrev pub if_given : {A : Type 0} → (List ℕ → Option A) → Option (List ℕ) → Option (Option A)
+if_given read None = Some None
+if_given read (Some t) = option_map (λ x. Some x) (read t)
 
 abbrev pub or_none : Option (List ℕ) → List ℕ
 or_none None = []
@@ -160,30 +208,28 @@ abbrev pub options_from : Option (Option (List ℕ)) → Option (Option ℕ) →
 options_from (Some picked) (Some budget) (Some edit_budget) trace = Some (record { picked = or_none picked; budget = budget; edit_budget = edit_budget; trace = trace })
 options_from _ _ _ trace = None
 
--- each stands at most once, and each value is taken
 abbrev pub options_of : List (List ℕ) → List Given → Option Options
 options_of names gs =
-    if are_once gs then options_from (taken (picked_by names) (value_of Use gs)) (taken (number most_budget) (value_of Budget gs)) (taken (number most_budget) (value_of EditBudget gs)) (is_some (value_of Trace gs))
-    else None
-
-abbrev pub and_options : List (List ℕ) → Option (List Given) → Option Options
-and_options names None = None
-and_options names (Some gs) = options_of names gs
+    options_from (if_given (picked_by names) (value_of Use gs)) (if_given (number most_budget) (value_of Budget gs)) (if_given (number most_budget) (value_of EditBudget gs)) (is_some (value_of Trace gs))
 
 -- what the program can be asked to do
 pub data Command : Type 0 where
   Transform : Options → Command
   Lint : Command
 
-abbrev pub lint_alone : List (List ℕ) → Option Command
-lint_alone [] = Some Lint
-lint_alone (w ∷ ws) = None
+abbrev pub transform_of : List (List ℕ) → Option Taken → Option Command
+transform_of names None = None
+transform_of names (Some t) = if fits transform_options transform_plain t then option_map Transform (options_of names t.options) else None
+
+abbrev pub lint_of : Option Taken → Option Command
+lint_of None = None
+lint_of (Some t) = if fits lint_options lint_plain t then Some Lint else None
 
 -- the command of that name with those words
 abbrev pub command_with : List (List ℕ) → List ℕ → List (List ℕ) → Option Command
 command_with names name words =
-    if same_text name (codes "transform") then option_map Transform (and_options names (given words))
-    else if same_text name (codes "lint") then lint_alone words
+    if same_text name (codes "transform") then transform_of names (taken transform_options words)
+    else if same_text name (codes "lint") then lint_of (taken lint_options words)
     else None
 
 -- The command that the words ask for, where the plugins have these names: the first word names the command.

@@ -1,6 +1,7 @@
 -- What words ask for, where the plugins are `a`, `b`, another `a`, and `c=d`.
 use Rattle.std.specs.Prelude.{◌≡◌, ℕ, List, [], ◌∷◌, true, false, Option, Some, None, codes}
-use Rattle.command_words.specs.Words.{Command, Transform, Lint, command_of}
+use Rattle.command_words.specs.declared.options.OptionName.TheVariants.{Use, Trace}
+use Rattle.command_words.specs.Words.{Command, Transform, Lint, command_of, taken}
 
 abbrev plugins : List (List ℕ)
 plugins = codes "a" ∷ codes "b" ∷ codes "a" ∷ codes "c=d" ∷ []
@@ -29,9 +30,23 @@ GivenOptions = (transforms (codes "--trace" ∷ []) ≡ Some (Transform (record 
     × (transforms (codes "--budget" ∷ []) ≡ None)
     × (transforms (codes "--budget" ∷ codes "-7" ∷ []) ≡ None)
     × (transforms (codes "--use" ∷ codes "--trace" ∷ []) ≡ None)
-    × (transforms (codes "--" ∷ []) ≡ None)
+    × (transforms (codes "--trace" ∷ codes "--" ∷ []) ≡ Some (Transform (record { picked = []; budget = None; edit_budget = None; trace = true })))
+    × (transforms (codes "--" ∷ codes "--trace" ∷ []) ≡ None)
+    × (transforms (codes "--budget" ∷ codes "--" ∷ []) ≡ None)
     × (transforms (codes "a.css" ∷ []) ≡ None)
     × (transforms (codes "--budget=1" ∷ codes "--budget=1" ∷ []) ≡ None)
+
+-- plain words and options in any order, and only plain words behind `--`
+abbrev pub Mixed : Type 0
+Mixed = (taken (Use ∷ Trace ∷ []) (codes "a.css" ∷ codes "--use=b" ∷ codes "c.css" ∷ codes "--trace" ∷ codes "--" ∷ codes "d.css" ∷ [])
+    ≡ Some (record { options = record { name = Use; value = codes "b" } ∷ record { name = Trace; value = [] } ∷ []; plain = codes "a.css" ∷ codes "c.css" ∷ codes "d.css" ∷ [] }))
+    × (taken (Use ∷ []) (codes "--use" ∷ codes "b=c=d" ∷ []) ≡ Some (record { options = record { name = Use; value = codes "b=c=d" } ∷ []; plain = [] }))
+    × (taken (Use ∷ []) (codes "--use=b=c" ∷ []) ≡ Some (record { options = record { name = Use; value = codes "b=c" } ∷ []; plain = [] }))
+    × (taken (Use ∷ []) (codes "--trace" ∷ []) ≡ None)
+    × (taken (Use ∷ []) (codes "a.css" ∷ codes "--" ∷ codes "-b.css" ∷ []) ≡ None)
+    × (taken (Use ∷ []) (codes "--" ∷ codes "--" ∷ []) ≡ None)
+    × (taken (Use ∷ []) (codes "-" ∷ []) ≡ None)
+    × (taken (Use ∷ []) ([] ∷ []) ≡ None)
 
 abbrev pub Numbers : Type 0
 Numbers = (transforms (codes "--budget=20000000" ∷ []) ≡ options [] (Some 20000000) None)

@@ -8,7 +8,11 @@ returns-clause-commands c = (refl, refl, refl, refl, refl, refl)
 
 pub returns-clause-options : goal.returns-clause-options
 unfolding command_of
-returns-clause-options c = (refl, refl, refl, refl, refl, refl, refl, refl, refl)
+returns-clause-options c = (refl, refl, refl, refl, refl, refl, refl, refl, refl, refl, refl)
+
+pub returns-clause-mixed : goal.returns-clause-mixed
+unfolding command_of
+returns-clause-mixed c = (refl, refl, refl, refl, refl, refl, refl, refl)
 
 pub returns-clause-numbers : goal.returns-clause-numbers
 unfolding command_of
