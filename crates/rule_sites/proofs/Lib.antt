@@ -1,0 +1,12 @@
+pub mod Ancestors
+pub mod Children
+pub mod Contexts
+pub mod Earlier
+pub mod Exchange
+pub mod Fronts
+pub mod Numbers
+pub mod Orders
+pub mod Places
+pub mod Stand
+pub mod Vendor
+pub mod Walks

@@ -1,0 +1,9 @@
+pub mod Blocks
+pub mod Context
+pub mod ContextAt
+pub mod Examples
+pub mod Finding
+pub mod Keyframes
+pub mod Laws
+pub mod Ordered
+pub mod Stands
