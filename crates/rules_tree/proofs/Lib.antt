@@ -1,0 +1,17 @@
+pub mod Finds
+pub mod Found
+pub mod Empty
+pub mod Above
+pub mod Blanks
+pub mod MarkFront
+pub mod Inner
+pub mod Longhands
+pub mod Messages
+pub mod LowerWords
+pub mod Barriers
+pub mod Dispatch
+pub mod SameName
+pub mod StarBytes
+pub mod Uses
+pub mod Walked
+pub mod Whitespace
